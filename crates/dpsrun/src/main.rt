@@ -15,9 +15,10 @@ mod readers;
 
 use files::SystemFiles;
 use outputs::{Patient, TerminalLine};
+use ps_ctx::makers::Makers;
 use ps_ctx_operators::operators::WorldOperators;
 use ps_ops::operators::Operators;
-use ps_run::{ErrorOutput, Flushed, drive, refuse_no_text};
+use ps_run::{ErrorOutput, Flushed, System, drive, refuse_no_text};
 use ps_step::steps::Steps;
 use std::hash::RandomState;
 use std::process::ExitCode;
@@ -39,16 +40,21 @@ fn run<R: Threads + Wait + Sync>(rt: &HostRuntime, workers: &R) -> io::Result<u8
     let arguments: Vec<String> = given.skip(1).collect(alloc)?;
     let words: Vec<&str> = arguments.iter().map(|word| word.as_str()).collect(alloc)?;
     let mut files = SystemFiles::new(rt);
-    let steps = Steps {
-        operators: Operators,
-        text: Vec::new(alloc),
+    let makers = Makers {
+        steps: Steps {
+            operators: Operators,
+            text: Vec::new(alloc),
+        },
+        operators: WorldOperators { alloc },
+    };
+    let system = System {
+        rt: workers,
+        alloc,
+        keys: RandomState::new(rt)?,
     };
     let (status, _) = drive(
-        workers,
-        alloc,
-        steps,
-        WorldOperators { alloc },
-        RandomState::new(rt)?,
+        system,
+        makers,
         words.as_slice(),
         &mut files,
         Flushed::new(Patient::new(rt, rt.stdout())),

@@ -40,7 +40,7 @@ use std::mem;
 
 /// The collector's part.
 #[derive(Drop)]
-pub struct Collector {
+pub struct CollectorPart {
     space: u64,
     cycle: u64,
     epoch: u64,
@@ -54,7 +54,7 @@ pub struct Collector {
     handed: Vec<u64, Global>,
 }
 
-impl Model for Collector {
+impl Model for CollectorPart {
     ghost use Rattle.ps_core_machine.specs.declared.events.Gc.{Gc};
 
     ghost Value = { Gc };
@@ -74,12 +74,12 @@ impl Model for Collector {
     } };
 }
 
-impl Collector {
+impl CollectorPart {
     /// The part at the start, over spaces of so many words.
-    pub fn start(alloc: Global, space: u64) -> Result<Collector, AllocError>
+    pub fn start(alloc: Global, space: u64) -> Result<CollectorPart, AllocError>
         ensures { IfOk result (λ m. m ≡ (steps.start space).gc) }
     {
-        Ok(Collector {
+        Ok(CollectorPart {
             space,
             cycle: 0,
             epoch: 0,
@@ -243,11 +243,11 @@ impl Collector {
     }
 
     /// The same part once more; memory may be short.
-    pub fn copy(&self) -> Result<Collector, AllocError>
+    pub fn copy(&self) -> Result<CollectorPart, AllocError>
         ensures { IfOk result (λ m. m ≡ self.now) }
     {
         let alloc = *self.known.allocator();
-        Ok(Collector {
+        Ok(CollectorPart {
             space: self.space,
             cycle: self.cycle,
             epoch: self.epoch,

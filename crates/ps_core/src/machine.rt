@@ -22,7 +22,7 @@ ghost use Rattle.ps_core_machine.specs.Steps as steps;
 ghost use Rattle.ps_record.specs.Format as layout;
 ghost use Rattle.ps_core_machine.specs.Steps.{State, happens};
 
-use crate::collector::Collector;
+use crate::collector::CollectorPart;
 use crate::mutator::Mutator;
 use ps_core_machine::events::{Event, Roots};
 use ps_core_machine::lists::{load, load_field, same_logs, store, store_field};
@@ -36,7 +36,7 @@ use std::marker::Model;
 pub struct Machine {
     words: Vec<u64, Global>,
     vm: Mutator,
-    gc: Collector,
+    gc: CollectorPart,
 }
 
 impl Model for Machine {
@@ -56,7 +56,7 @@ impl Machine {
         Ok(Machine {
             words: Vec::from_elem(alloc, 0u64, (SPACES_START + 2 * space) as usize)?,
             vm: Mutator::start(alloc, space)?,
-            gc: Collector::start(alloc, space)?,
+            gc: CollectorPart::start(alloc, space)?,
         })
     }
 

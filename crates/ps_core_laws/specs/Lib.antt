@@ -4,3 +4,12 @@ pub mod Places
 pub mod Reach
 pub mod Renaming
 pub mod Runs
+pub mod MemoryFlips
+pub mod MemoryLaws
+pub mod Memory
+pub mod Shown
+pub mod Stores
+pub mod Flips
+pub mod Moves
+pub mod Collected
+pub mod Reached

@@ -1,4 +1,5 @@
-//! What holds of every run of the collector as a machine over the atomic steps on its table.
+//! What holds of every run of the collector as a machine over the atomic steps on its table (`law`);
+//! that the mutator's part of it is a memory (`memory`); and that no program sees a flip (`flips`).
 //!
 //! A run is a list of events from two empty spaces, each permitted where it happened. The laws are
 //! told of the state that it leads to (`Always`), of the state in which an event of some form comes
@@ -27,6 +28,17 @@ ghost use Rattle.ps_core_laws.specs.Kept.{Kept, IsNumbered};
 ghost use Rattle.ps_core_laws.specs.Renaming.{Renames};
 ghost use Rattle.ps_core_laws.specs.Reach.{Carries, AreNoted, CopiesReachable};
 ghost use Rattle.ps_core_laws.specs.Runs.{EveryRun, Always, Whenever};
+
+mod closing;
+pub mod collected;
+mod flips;
+mod marked;
+mod memory;
+pub mod sides;
+
+pub use closing::Closing;
+pub use flips::{flip_laws, moving_laws};
+pub use memory::memory_laws;
 
 /// The laws of the collector (Nettles and O'Toole, PLDI 1993, 2 and 3), which hold after every list
 /// of permitted events, for every size of a space from 4,096 to 1,048,576 words.

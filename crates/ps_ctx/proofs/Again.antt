@@ -12,7 +12,7 @@ use Rattle.ps_language.specs.World.{Status, running as runs_on, again as tries_a
 use Rattle.ps_mem.specs.Heap.{Heap, birth_at}
 use Rattle.ps_ops_operands.specs.declared.failure.NotMade.{NotMade as Reason}
 use Rattle.ps_ops_operands.specs.Changes.{values_in}
-use Rattle.ps_ops_state.specs.declared.lent.Trial.{Trial}
+use Rattle.ps_ops_state.specs.declared.lent.Attempt.{Attempt}
 use Rattle.ps_ops_state.specs.Acts.{Asked}
 use Rattle.ps_ops_state.specs.Lent.{IsShown}
 use Rattle.ps_step_outcome.specs.Turns.{calling_of}
@@ -96,10 +96,10 @@ module _ (d : Desk) (steady : IsSteady d) (identifier : ℕ) (member : Member)
         running_machine (none_left member.is_detached running_machine.context)
 
   -- it is still there where the call was not made
-  pub back_some : (operator : Operator) (new : Desk) (trial : Trial) (shown : Option (ℤ × ℤ))
-      (reason : Reason) → Calls operator identifier trial shown (Err reason)
+  pub back_some : (operator : Operator) (new : Desk) (attempt : Attempt) (shown : Option (ℤ × ℤ))
+      (reason : Reason) → Calls operator identifier attempt shown (Err reason)
       (desk_with d identifier (in_course Running member)) new → IsSome (item_at new.members identifier)
-  back_some operator new trial shown reason calls = subst IsSome (sym calls.unmade.0.found) refl
+  back_some operator new attempt shown reason calls = subst IsSome (sym calls.unmade.0.found) refl
 
 module _ (asks : Status → Around → Scene → Asked) (d : Desk)
     (steady : IsSteadyHeld (held d None)) (identifier : ℕ) (member : Member)
@@ -107,7 +107,7 @@ module _ (asks : Status → Around → Scene → Asked) (d : Desk)
     (operator : Operator)
     (tries : (h : Heap) (names : List (List ℕ))
     → calling_of operator ≡ retried (values_in h names member.context.operands))
-    (trial : Trial) (shown : Option (ℤ × ℤ)) where
+    (attempt : Attempt) (shown : Option (ℤ × ℤ)) where
   abbrev running : Desk
   running = desk_with d identifier (in_course Running member)
 
@@ -125,35 +125,35 @@ module _ (asks : Status → Around → Scene → Asked) (d : Desk)
     status_is = ap (status_of (birth_at d.heap)) is
 
     step_tries : is_ready w identifier ≡ true
-        → stepped w identifier trial.refused shown
-        ≡ called (calling_of operator) identifier trial.refused shown
+        → stepped w identifier attempt.refused shown
+        ≡ called (calling_of operator) identifier attempt.refused shown
         (with_machine identifier w machine) machine.context
     unfolding stepped
     step_tries ready =
         ap (λ (b : Bool). if b then option_map_or (λ one.
-        moved_as one.status identifier trial.refused shown w one) (context_at w identifier)
+        moved_as one.status identifier attempt.refused shown w one) (context_at w identifier)
         (plainly w) else plainly w) ready
         ∙ (ap (λ (one : Option Context). option_map_or (λ it.
-        moved_as it.status identifier trial.refused shown w it) one (plainly w)) there
-        ∙ (ap (λ status. moved_as status identifier trial.refused shown w here) status_is
-        ∙ ap (λ (calling : CallingOf). called calling identifier trial.refused shown
+        moved_as it.status identifier attempt.refused shown w it) one (plainly w)) there
+        ∙ (ap (λ status. moved_as status identifier attempt.refused shown w here) status_is
+        ∙ ap (λ (calling : CallingOf). called calling identifier attempt.refused shown
         (with_machine identifier w machine) machine.context) (sym (tries d.heap d.names))))
 
-    wants_call : step_wants asks identifier trial.refused w ≡ call_wants (calling_of operator)
-        identifier trial.refused (with_machine identifier w machine) machine.context
+    wants_call : step_wants asks identifier attempt.refused w ≡ call_wants (calling_of operator)
+        identifier attempt.refused (with_machine identifier w machine) machine.context
     wants_call =
-        wants_there asks identifier trial.refused w here there
-        ∙ (ap (λ status. wants_as asks status identifier trial.refused w (machine_of w here))
+        wants_there asks identifier attempt.refused w here there
+        ∙ (ap (λ status. wants_as asks status identifier attempt.refused w (machine_of w here))
         status_is
-        ∙ ap (λ (calling : CallingOf). call_wants calling identifier trial.refused
+        ∙ ap (λ (calling : CallingOf). call_wants calling identifier attempt.refused
         (with_machine identifier w machine) machine.context) (sym (tries d.heap d.names)))
 
   framed_here : AreFramedBut identifier running.members
   framed_here = framed_but d.members identifier (Some (in_course Running member)) steady.framed
 
   pub retry_made : (note : Note) (new : Desk)
-      → Calls operator identifier trial shown (Ok note) running new
-      → Steps asks identifier trial shown (Ok note) (held d None) (held new None)
+      → Calls operator identifier attempt shown (Ok note) running new
+      → Steps asks identifier attempt shown (Ok note) (held d None) (held new None)
   retry_made note new calls = record {
     meets = λ w at ready.
         let to = calls.meets (with_machine identifier w (machine w at)) (machine w at).context
@@ -178,7 +178,7 @@ module _ (asks : Status → Around → Scene → Asked) (d : Desk)
 
   -- it tries again later
   module _ (reason : Reason) (new : Desk)
-      (calls : Calls operator identifier trial shown (Err reason) running new) (back : Member)
+      (calls : Calls operator identifier attempt shown (Err reason) running new) (back : Member)
       (back_there : Some back ≡ item_at new.members identifier) where
     abbrev final : Desk
     final = desk_with new identifier (in_course Again back)
@@ -228,14 +228,14 @@ module _ (asks : Status → Around → Scene → Asked) (d : Desk)
         (changed_steady new identifier (in_course Again back) calls.steady
         (record { good = good_back.good; course = tt }))
 
-    pub retry_unmade : Steps asks identifier trial shown (Err reason) (held d None)
+    pub retry_unmade : Steps asks identifier attempt shown (Err reason) (held d None)
         (held final None)
     retry_unmade = record {
       meets = λ w at ready.
           subst (λ (one : Desk). IsWorld one w) (sym (final_is w at))
           (regranted d w new.grants new.room new.scratch at);
       held_up = λ why same w at ready.
-          subst (λ (wanted : Growth). IsHeldUpAs wanted trial.slot new.heap new.grants why)
+          subst (λ (wanted : Growth). IsHeldUpAs wanted attempt.slot new.heap new.grants why)
           (sym (wants_call w at))
           (calls.held_up why same (with_machine identifier w (machine w at))
           (machine w at).context (running_world d steady.steady identifier member found w at)

@@ -12,7 +12,7 @@ use Rattle.ps_ops_operands.specs.declared.failure.NotMade.{NotMade as Reason}
 use Rattle.ps_ops_control.specs.declared.frames.Frame.{Frame}
 use Rattle.ps_ops_state.specs.Acts.{Asked, AreFew}
 use Rattle.ps_ops_state.specs.Lent.{Lent}
-use Rattle.ps_ops_state.specs.Trials.{ordinary}
+use Rattle.ps_ops_state.specs.Attempts.{ordinary}
 use Rattle.ps_ops_state.proofs.Meeting.{keeps-same}
 use Rattle.ps_step_outcome.specs.declared.turned.Turned.{Turned}
 use Rattle.ps_step_outcome.specs.declared.turned.Turned.TheVariants.{Goes, Calls, Breaks, Ends}

@@ -4,7 +4,7 @@ use Rattle.ps_language.specs.Effect.{Around, Scene}
 use Rattle.ps_language.specs.Step.{with_machine}
 use Rattle.ps_language.specs.World.{Status}
 use Rattle.ps_ops_operands.specs.declared.failure.NotMade.{NotMade as Reason}
-use Rattle.ps_ops_state.specs.declared.lent.Trial.{Trial}
+use Rattle.ps_ops_state.specs.declared.lent.Attempt.{Attempt}
 use Rattle.ps_ops_state.specs.Acts.{Asked}
 use Rattle.ps_ctx_table.specs.Desks.{Desk}
 use Rattle.ps_ctx.specs.declared.notes.Note.{Note}
@@ -19,14 +19,14 @@ use Rattle.ps_ctx.proofs.Starving.{call_held}
 pub same_members : (old new : Desk) → IsSameDesk old new → new.members ≡ old.members
 same_members old new same = ap (λ (d : Desk). d.members) same
 
-module _ (asks : Status → Around → Scene → Asked) (calling : Calling) (trial : Trial)
+module _ (asks : Status → Around → Scene → Asked) (calling : Calling) (attempt : Attempt)
     (shown : Option (ℤ × ℤ)) (old new : Desk) (steady : IsSteadyHeld (held old (Some calling)))
   where
     pub steps_called : (note : Note)
-        → Calls calling.operator calling.caller trial shown (Ok note) old new
-        → Steps asks calling.caller trial shown (Ok note) (held old (Some calling)) (held new None)
+        → Calls calling.operator calling.caller attempt shown (Ok note) old new
+        → Steps asks calling.caller attempt shown (Ok note) (held old (Some calling)) (held new None)
     steps_called note calls = record {
-      meets = λ w at ready. call_made calling trial shown old new w at note calls;
+      meets = λ w at ready. call_made calling attempt shown old new w at note calls;
       held_up = λ reason bad. absurd (cc);
       same = λ w at. tt;
       waits = λ some. tt;
@@ -41,17 +41,17 @@ module _ (asks : Status → Around → Scene → Asked) (calling : Calling) (tri
     }
 
     pub steps_uncalled : (reason : Reason)
-        → Calls calling.operator calling.caller trial shown (Err reason) old new
-        → Steps asks calling.caller trial shown (Err reason) (held old (Some calling))
+        → Calls calling.operator calling.caller attempt shown (Err reason) old new
+        → Steps asks calling.caller attempt shown (Err reason) (held old (Some calling))
         (held new (Some calling))
     steps_uncalled reason calls = record {
-      meets = λ w at ready. call_unmade calling trial shown old new w at reason calls;
+      meets = λ w at ready. call_unmade calling attempt shown old new w at reason calls;
       held_up = λ why is w at ready.
-          call_held asks calling trial shown old new w at why
-          (subst (λ r. Calls calling.operator calling.caller trial shown r old new) is calls);
+          call_held asks calling attempt shown old new w at why
+          (subst (λ r. Calls calling.operator calling.caller attempt shown r old new) is calls);
       same = λ w at. λ kept. calls.same (with_machine calling.caller w at.left) at.world;
       waits = λ some. refl;
-      no_status = λ w at. never_status calling trial old new w at reason shown calls;
+      no_status = λ w at. never_status calling attempt old new w at reason shown calls;
       leaves = λ w at is. absurd (cc);
       caller = refl;
       logs = λ w at ready. calls.logs;

@@ -3,7 +3,7 @@ use Rattle.std.proofs.Common.{◌≡◌, ℕ, ℤ, Bool, true, List, [], ◌∷�
 use Rattle.std.proofs.Common.{◌∙◌}
 use Rattle.ps_language.specs.declared.operators.Operator.{Operator}
 use Rattle.ps_language.specs.Effect.{Around, Scene}
-use Rattle.ps_language.specs.Machines.{may_end, reaches, leaves_to_world, own_step}
+use Rattle.ps_language.specs.Machines.{may_end, leaves_to_world, own_step}
 use Rattle.ps_language.specs.Machines as machines
 use Rattle.ps_language.specs.Step.{machine_of, with_machine, Stepped, after_own, stepped}
 use Rattle.ps_language.specs.World.{Status, Machine, World}
@@ -12,7 +12,7 @@ use Rattle.ps_ops_operands.specs.declared.failure.NotMade.{NotMade as Reason}
 use Rattle.ps_ops_operands.specs.Changes.{KeepsLogsWithin}
 use Rattle.ps_ops_control.specs.declared.frames.Cause.{Cause}
 use Rattle.ps_ops_control.specs.declared.frames.Frame.{Frame}
-use Rattle.ps_ops_state.specs.declared.lent.Trial.{Trial}
+use Rattle.ps_ops_state.specs.declared.lent.Attempt.{Attempt}
 use Rattle.ps_ops_state.specs.Acts.{Asked, IsSame}
 use Rattle.ps_ops_state.specs.Lent.{Lent, IsShown, scene_of, around_of}
 use Rattle.ps_step_outcome.specs.declared.turned.Turned.{Turned}
@@ -90,7 +90,7 @@ same_desk d identifier member new found same =
 module _ (asks : Status → Around → Scene → Asked) (unwinding : Option Cause) (d : Desk)
     (steady : IsSteady d) (framed : AreFramed d.members) (identifier : ℕ) (member : Member)
     (found : item_at d.members identifier ≡ Some member)
-    (is : member.course ≡ course_in unwinding) (trial : Trial) (new : Lent) where
+    (is : member.course ≡ course_in unwinding) (attempt : Attempt) (new : Lent) where
   abbrev old : Lent
   old = lent_to d member.context
 
@@ -109,7 +109,7 @@ module _ (asks : Status → Around → Scene → Asked) (unwinding : Option Caus
       (scene_of old w.store)) (sym status_is)
 
   module _ (turned : Turned)
-      (made : Turns (asks_in asks unwinding) (own_turn unwinding) trial (Ok turned) old new) where
+      (made : Turns (asks_in asks unwinding) (own_turn unwinding) attempt (Ok turned) old new) where
     abbrev pub after_desk : Desk
     after_desk = desk_turned d identifier member new turned
 
@@ -117,20 +117,20 @@ module _ (asks : Status → Around → Scene → Asked) (unwinding : Option Caus
     after_member = turned_member turned (record member { context = returned new })
 
     steps_is : (w : World) (at : IsWorld d w) (shown : Option (ℤ × ℤ))
-        → stepped w identifier trial.refused shown
-        ≡ after_own identifier trial.refused shown w (reached_by turned
+        → stepped w identifier attempt.refused shown
+        ≡ after_own identifier attempt.refused shown w (reached_by turned
         (turned_machine d steady identifier member found (asks_in asks unwinding)
-        (own_turn unwinding) trial new turned made w at))
+        (own_turn unwinding) attempt new turned made w at))
     steps_is w at shown =
         turned_steps d w at identifier member found steady (asks_in asks unwinding)
-        (own_turn unwinding) trial new turned made shown may (turn_is w)
+        (own_turn unwinding) attempt new turned made shown may (turn_is w)
 
     settled_by : (turned : Turned) → calling_after turned identifier ≡ None → (w : World)
         (shown : Option (ℤ × ℤ)) (desk : Desk) (next : Machine)
-        → stepped w identifier trial.refused shown
-        ≡ after_own identifier trial.refused shown w (reached_by turned next)
+        → stepped w identifier attempt.refused shown
+        ≡ after_own identifier attempt.refused shown w (reached_by turned next)
         → IsWorld desk (with_machine identifier w (machine_reached (reached_by turned next)))
-        → StepsTo (Ok Nothing) (stepped w identifier trial.refused shown) w (held desk None)
+        → StepsTo (Ok Nothing) (stepped w identifier attempt.refused shown) w (held desk None)
     settled_by Goes none w shown desk next same at = (
       subst (λ (s : Stepped). IsWorld desk s.world) (sym same) at,
       refl,
@@ -151,35 +151,35 @@ module _ (asks : Status → Around → Scene → Asked) (unwinding : Option Caus
     -- it has settled
     pub own_made : calling_after turned identifier ≡ None → (w : World) → IsWorld d w
         → (shown : Option (ℤ × ℤ))
-        → StepsTo (Ok Nothing) (stepped w identifier trial.refused shown) w (held after_desk None)
+        → StepsTo (Ok Nothing) (stepped w identifier attempt.refused shown) w (held after_desk None)
     own_made none w at shown =
         settled_by turned none w shown after_desk
         (turned_machine d steady identifier member found (asks_in asks unwinding)
-        (own_turn unwinding) trial new turned made w at) (steps_is w at shown)
+        (own_turn unwinding) attempt new turned made w at) (steps_is w at shown)
         (turned_world d steady identifier member found (asks_in asks unwinding)
-        (own_turn unwinding) trial new turned made w at)
+        (own_turn unwinding) attempt new turned made w at)
 
   -- an operator is left to the world
   module _ (operator : Operator)
-      (made : Turns (asks_in asks unwinding) (own_turn unwinding) trial (Ok (Calls operator)) old
+      (made : Turns (asks_in asks unwinding) (own_turn unwinding) attempt (Ok (Calls operator)) old
       new) where
     module _ (w : World) (at : IsWorld d w) where
       abbrev left : Machine
       left = turned_machine d steady identifier member found (asks_in asks unwinding)
-          (own_turn unwinding) trial new (Calls operator) made w at
+          (own_turn unwinding) attempt new (Calls operator) made w at
 
       abbrev machine : Machine
       machine = machine_of w (context_of d.heap d.names member)
 
       is_left : IsLeft machine (own_turn unwinding old w.store) (calling_of operator) left
-      is_left = left_by trial.refused machine (own_turn unwinding old w.store)
+      is_left = left_by attempt.refused machine (own_turn unwinding old w.store)
           (calling_of operator) left (turned_reaches d steady identifier member found
-          (asks_in asks unwinding) (own_turn unwinding) trial new (Calls operator) made w at)
+          (asks_in asks unwinding) (own_turn unwinding) attempt new (Calls operator) made w at)
 
-      pub calls_logs : KeepsLogsWithin 0 old.grants new.grants trial.slot
+      pub calls_logs : KeepsLogsWithin 0 old.grants new.grants attempt.slot
       calls_logs =
-          subst (λ (n : ℕ). KeepsLogsWithin n old.grants new.grants trial.slot)
-          (ap (λ turn. (turn_needs trial.refused (asks_in asks unwinding old w.store)
+          subst (λ (n : ℕ). KeepsLogsWithin n old.grants new.grants attempt.slot)
+          (ap (λ turn. (turn_needs attempt.refused (asks_in asks unwinding old w.store)
           (birth_at old.heap old.error_dictionary) (scene_of old w.store) turn).records)
           is_left.asks)
           (made.meets w.store (member_at (λ one. IsShown (lent_to d one.context) w.store)
@@ -203,26 +203,26 @@ module _ (asks : Status → Around → Scene → Asked) (unwinding : Option Caus
         runs = refl;
         leaves = leaves;
         world = turned_world d steady identifier member found (asks_in asks unwinding)
-            (own_turn unwinding) trial new (Calls operator) made w at;
+            (own_turn unwinding) attempt new (Calls operator) made w at;
       }
 
   -- it is not made
   module _ (reason : Reason)
-      (unmade : Turns (asks_in asks unwinding) (own_turn unwinding) trial (Err reason) old new)
+      (unmade : Turns (asks_in asks unwinding) (own_turn unwinding) attempt (Err reason) old new)
     where
       pub own_unmade : (w : World) → IsWorld d w → IsWorld (desk_unmade d identifier member new) w
       own_unmade w at =
           unmade_world d steady identifier member found (asks_in asks unwinding)
-          (own_turn unwinding) trial new reason unmade w at
+          (own_turn unwinding) attempt new reason unmade w at
 
       pub unmade_is_steady : IsSteady (desk_unmade d identifier member new)
       unmade_is_steady =
           unmade_steady d steady identifier member found (asks_in asks unwinding)
-          (own_turn unwinding) trial new reason unmade
+          (own_turn unwinding) attempt new reason unmade
 
   -- once it has settled
   pub own_framed : (turned : Turned)
-      (made : Turns (asks_in asks unwinding) (own_turn unwinding) trial (Ok turned) old new)
+      (made : Turns (asks_in asks unwinding) (own_turn unwinding) attempt (Ok turned) old new)
       → AreFramedBy (calling_after turned identifier) (after_desk turned made)
   own_framed Goes made =
       framed_with d.members identifier (after_member Goes made) framed
@@ -245,10 +245,10 @@ module _ (asks : Status → Around → Scene → Asked) (unwinding : Option Caus
       (frame_after (Ends told) new.frames made.under_way tt)
 
   pub own_steady : (turned : Turned)
-      (made : Turns (asks_in asks unwinding) (own_turn unwinding) trial (Ok turned) old new)
+      (made : Turns (asks_in asks unwinding) (own_turn unwinding) attempt (Ok turned) old new)
       → IsSteadyHeld (held (after_desk turned made) (calling_after turned identifier))
   own_steady turned made = record {
     steady = turned_steady d steady identifier member found (asks_in asks unwinding)
-        (own_turn unwinding) trial new turned made;
+        (own_turn unwinding) attempt new turned made;
     framed = own_framed turned made;
   }

@@ -11,7 +11,7 @@ use Rattle.ps_language.specs.World.{Status, Context, World}
 use Rattle.ps_mem.specs.Heap.{birth_at}
 use Rattle.ps_ops_operands.specs.declared.failure.NotMade.{NotMade as Reason}
 use Rattle.ps_ops_operands.specs.Changes.{most_records}
-use Rattle.ps_ops_state.specs.declared.lent.Trial.{Trial}
+use Rattle.ps_ops_state.specs.declared.lent.Attempt.{Attempt}
 use Rattle.ps_ops_state.specs.Acts.{Asked}
 use Rattle.ps_ops_state.proofs.Meeting.{keeps-same, logs-same, logs_more}
 use Rattle.ps_ctx_table.specs.declared.members.Course.{Course}
@@ -36,7 +36,7 @@ IsResting Finished = Unit {0}
 IsResting course = ⊥
 
 module _ (asks : Status → Around → Scene → Asked) (d : Desk)
-    (steady : IsSteadyHeld (held d None)) (identifier : ℕ) (trial : Trial)
+    (steady : IsSteadyHeld (held d None)) (identifier : ℕ) (attempt : Attempt)
     (shown : Option (ℤ × ℤ)) where
   module _ (course : Course) (here : CourseAt identifier course d.members) where
     abbrev context : Context
@@ -56,17 +56,17 @@ module _ (asks : Status → Around → Scene → Asked) (d : Desk)
           ∙ ap (λ status. is_ready_as status identifier context w) status_is
 
       step_is : is_ready w identifier ≡ true
-          → stepped w identifier trial.refused shown
-          ≡ moved_as (status_of (birth_at d.heap) course) identifier trial.refused shown w context
+          → stepped w identifier attempt.refused shown
+          ≡ moved_as (status_of (birth_at d.heap) course) identifier attempt.refused shown w context
       unfolding stepped
       step_is ready =
           ap (λ (b : Bool). if b then option_map_or (λ one.
-          moved_as one.status identifier trial.refused shown w one) (context_at w identifier)
+          moved_as one.status identifier attempt.refused shown w one) (context_at w identifier)
           (plainly w) else plainly w) ready
           ∙ (ap (λ (one : Option Context). option_map_or (λ it.
-          moved_as it.status identifier trial.refused shown w it) one (plainly w))
+          moved_as it.status identifier attempt.refused shown w it) one (plainly w))
           (context_there d w at identifier here.member here.found)
-          ∙ ap (λ status. moved_as status identifier trial.refused shown w context) status_is)
+          ∙ ap (λ status. moved_as status identifier attempt.refused shown w context) status_is)
 
   -- ---- one that waits for a condition, or is finished
 
@@ -80,7 +80,7 @@ module _ (asks : Status → Around → Scene → Asked) (d : Desk)
   unready Finished resting one w = refl
 
   pub rests : (course : Course) → CourseAt identifier course d.members → IsResting course
-      → Steps asks identifier trial shown (Ok Nothing) (held d None) (held d None)
+      → Steps asks identifier attempt shown (Ok Nothing) (held d None) (held d None)
   rests course here resting = record {
     meets = λ w at ready. absurd (true≢false (sym ready
         ∙ (ready_is course here w at ∙ unready course resting (context course here) w)));
@@ -90,7 +90,7 @@ module _ (asks : Status → Around → Scene → Asked) (d : Desk)
     no_status = λ w at. tt;
     leaves = λ w at is. absurd (cc);
     caller = tt;
-    logs = λ w at ready. logs-same most_records d.grants trial.slot;
+    logs = λ w at ready. logs-same most_records d.grants attempt.slot;
     keeps = keeps-same d.heap;
     steady = steady;
     program = refl;
@@ -100,8 +100,8 @@ module _ (asks : Status → Around → Scene → Asked) (d : Desk)
   -- ---- one that takes its lock again
 
   module _ (lock : ℕ) (here : CourseAt identifier (Retaking lock) d.members) (new : Desk) where
-    pub retakes : Retakes identifier trial (Ok (tt {0})) d new
-        → Steps asks identifier trial shown (Ok Nothing) (held d None) (held new None)
+    pub retakes : Retakes identifier attempt (Ok (tt {0})) d new
+        → Steps asks identifier attempt shown (Ok Nothing) (held d None) (held new None)
     retakes done = record {
       meets = λ w at ready.
           let to = done.meets w (context (Retaking lock) here) (birth_at d.heap lock) at
@@ -119,22 +119,22 @@ module _ (asks : Status → Around → Scene → Asked) (d : Desk)
       leaves = λ w at is. absurd (cc);
       caller = tt;
       logs = λ w at ready.
-          logs_more 1 most_records d.grants new.grants trial.slot (omega arith) done.logs;
+          logs_more 1 most_records d.grants new.grants attempt.slot (omega arith) done.logs;
       keeps = done.keeps;
       steady = record { steady = done.steady; framed = done.framed steady.framed };
       program = done.program;
       most = done.most;
     }
 
-    pub unretaken : (reason : Reason) → Retakes identifier trial (Err reason) d new
-        → Steps asks identifier trial shown (failed_with reason) (held d None) (held new None)
+    pub unretaken : (reason : Reason) → Retakes identifier attempt (Err reason) d new
+        → Steps asks identifier attempt shown (failed_with reason) (held d None) (held new None)
     unretaken reason done = record {
       meets = λ w at ready.
           done.meets w (context (Retaking lock) here) (birth_at d.heap lock) at
           (context_there d w at identifier here.member here.found)
           (status_is (Retaking lock) here);
       held_up = λ why is w at ready.
-          unlogged_held (step_wants asks identifier trial.refused w) trial.slot new.heap d.grants
+          unlogged_held (step_wants asks identifier attempt.refused w) attempt.slot new.heap d.grants
           new.grants done.logs.closed why
           (done.held_up why (ap (λ r. Err r) (same_reason reason why is)));
       same = λ w at. λ kept. done.unmade;

@@ -18,7 +18,7 @@ use Rattle.ps_ops_operands.specs.declared.failure.NotMade.{NotMade as Reason}
 use Rattle.ps_ops_operands.specs.declared.failure.NotMade.TheVariants.{LogFull, LogClosed, NeedSpace, Memory}
 use Rattle.ps_ops_operands.specs.Changes.{most_records}
 use Rattle.ps_ops_control.specs.declared.frames.Cause.{Cause}
-use Rattle.ps_ops_state.specs.declared.lent.Trial.{Trial}
+use Rattle.ps_ops_state.specs.declared.lent.Attempt.{Attempt}
 use Rattle.ps_ops_state.specs.Acts.{Asked, Needs, AreFew, IsReason, IsSame}
 use Rattle.ps_ops_state.specs.Lent as lents
 use Rattle.ps_ops_state.specs.Lent.{Lent, IsShown}
@@ -250,9 +250,9 @@ left_none identifier refused w machine asked birth before (leaves_to calling kep
 
 module _ (asks : Status → Around → Scene → Asked) (unwinding : Option Cause) (d : Desk)
     (identifier : ℕ) (member : Member) (found : item_at d.members identifier ≡ Some member)
-    (is : member.course ≡ course_in unwinding) (trial : Trial) (few : AreFew asks)
+    (is : member.course ≡ course_in unwinding) (attempt : Attempt) (few : AreFew asks)
     (reason : Reason) (new : Lent)
-    (unmade : Turns (asks_in asks unwinding) (own_turn unwinding) trial (Err reason)
+    (unmade : Turns (asks_in asks unwinding) (own_turn unwinding) attempt (Err reason)
     (lent_to d member.context) new) (w : World) (at : IsWorld d w) where
   abbrev l : Lent
   l = lent_to d member.context
@@ -272,13 +272,13 @@ module _ (asks : Status → Around → Scene → Asked) (unwinding : Option Caus
       machine.context.frames (scene_of machine)
 
   abbrev machine_needs : Needs
-  machine_needs = turn_needs trial.refused machine_asked machine.context.error_dictionary
+  machine_needs = turn_needs attempt.refused machine_asked machine.context.error_dictionary
       (scene_of machine) machine_turn
 
   -- what the machine's turn asks for is what that of what is lent asks for
   needs_same : machine_needs
-      ≡ needs_in trial (asks_in asks unwinding) (own_turn unwinding) l w.store
-  needs_same = λ i. turn_needs trial.refused
+      ≡ needs_in attempt (asks_in asks unwinding) (own_turn unwinding) l w.store
+  needs_same = λ i. turn_needs attempt.refused
       (asks (status_is i) (record {
         program = at.program i;
         error_dictionary = birth_at d.heap member.context.error_dictionary;
@@ -295,43 +295,43 @@ module _ (asks : Status → Around → Scene → Asked) (unwinding : Option Caus
   own_may = ap may_end status_is ∙ may_in unwinding
 
   -- that is a part of what the step may want
-  own_part : IsPart (growth_for (needs_in trial (asks_in asks unwinding) (own_turn unwinding) l
-      w.store)) (step_wants asks identifier trial.refused w)
+  own_part : IsPart (growth_for (needs_in attempt (asks_in asks unwinding) (own_turn unwinding) l
+      w.store)) (step_wants asks identifier attempt.refused w)
   own_part =
       subst (λ (needs : Needs). IsPart (growth_for needs)
-      (step_wants asks identifier trial.refused w)) needs_same
-      (subst (IsPart (growth_for machine_needs)) (sym (wants_own asks identifier trial.refused w
+      (step_wants asks identifier attempt.refused w)) needs_same
+      (subst (IsPart (growth_for machine_needs)) (sym (wants_own asks identifier attempt.refused w
       (context_of d.heap d.names member) (context_there d w at identifier member found) own_may))
       (first_part (growth_for machine_needs)
-      (left_wants identifier trial.refused w machine machine_turn)
+      (left_wants identifier attempt.refused w machine machine_turn)
       (λ some. ap (λ (g : Growth). g.words) (none_left_by some))
       (λ some. ap (λ (g : Growth). g.births) (none_left_by some))))
     where
       none_left_by : 1 ≤ machine_needs.words
-          → left_wants identifier trial.refused w machine machine_turn ≡ no_growth
-      none_left_by = left_none identifier trial.refused w machine machine_asked
+          → left_wants identifier attempt.refused w machine machine_turn ≡ no_growth
+      none_left_by = left_none identifier attempt.refused w machine machine_asked
           machine.context.error_dictionary (scene_of machine) machine_turn
 
-  pub own_held : IsHeldUpAs (step_wants asks identifier trial.refused w) trial.slot new.heap
+  pub own_held : IsHeldUpAs (step_wants asks identifier attempt.refused w) attempt.slot new.heap
       new.grants reason
   own_held =
       let by = unmade.meets w.store (member_at (λ one. IsShown (lent_to d one.context) w.store)
       d.members identifier member at.members found) in
-      let needs : Needs = needs_in trial (asks_in asks unwinding) (own_turn unwinding) l w.store in
+      let needs : Needs = needs_in attempt (asks_in asks unwinding) (own_turn unwinding) l w.store in
       let fewer : needs.records ≤ most_records =
-      few_in trial.refused (asks_in asks unwinding l w.store)
+      few_in attempt.refused (asks_in asks unwinding l w.store)
       (birth_at l.heap l.error_dictionary) (lents.scene_of l w.store)
       (own_turn unwinding l w.store) (few (status_in unwinding) _ _) in
-      held_more (growth_for needs) (step_wants asks identifier trial.refused w) own_part trial.slot
+      held_more (growth_for needs) (step_wants asks identifier attempt.refused w) own_part attempt.slot
       new.heap new.grants reason
-      (held_by needs trial.slot l new reason fewer by.did.1 by.logs.closed by.did.0)
+      (held_by needs attempt.slot l new reason fewer by.did.1 by.logs.closed by.did.0)
 
 -- ---- a call
 
-module _ (asks : Status → Around → Scene → Asked) (calling : Calling) (trial : Trial)
+module _ (asks : Status → Around → Scene → Asked) (calling : Calling) (attempt : Attempt)
     (shown : Option (ℤ × ℤ)) (old new : Desk) (w : World) (at : IsCalling calling old w)
     (reason : Reason)
-    (calls : Calls calling.operator calling.caller trial shown (Err reason) old new) where
+    (calls : Calls calling.operator calling.caller attempt shown (Err reason) old new) where
   abbrev caller_machine : Machine
   caller_machine = machine_of w at.context
 
@@ -345,33 +345,33 @@ module _ (asks : Status → Around → Scene → Asked) (calling : Calling) (tri
       (at.leaves false)
 
   abbrev call_growth : Growth
-  call_growth = call_wants (calling_of calling.operator) calling.caller trial.refused
+  call_growth = call_wants (calling_of calling.operator) calling.caller attempt.refused
       (with_machine calling.caller w at.left) at.left.context
 
   -- of a turn that leaves the operator to the world
-  left_is : left_wants calling.caller trial.refused w caller_machine caller_turn ≡ call_growth
+  left_is : left_wants calling.caller attempt.refused w caller_machine caller_turn ≡ call_growth
   left_is =
-      ap (left_wants calling.caller trial.refused w caller_machine) is_left.asks
+      ap (left_wants calling.caller attempt.refused w caller_machine) is_left.asks
       ∙ ap (λ (left : Machine). call_wants (calling_of calling.operator) calling.caller
-      trial.refused (with_machine calling.caller w left) left.context) is_left.is
+      attempt.refused (with_machine calling.caller w left) left.context) is_left.is
 
   abbrev caller_needs : Turn → Needs
-  caller_needs turn = turn_needs trial.refused
+  caller_needs turn = turn_needs attempt.refused
       (asks at.context.status (around_of w.program caller_machine) (scene_of caller_machine))
       caller_machine.context.error_dictionary (scene_of caller_machine) turn
 
-  call_part : IsPart call_growth (step_wants asks calling.caller trial.refused w)
+  call_part : IsPart call_growth (step_wants asks calling.caller attempt.refused w)
   call_part =
-      subst (IsPart call_growth) (sym (wants_own asks calling.caller trial.refused w at.context
+      subst (IsPart call_growth) (sym (wants_own asks calling.caller attempt.refused w at.context
       at.found at.goes_on ∙ ap (growth_of_both (growth_for (caller_needs caller_turn))) left_is))
       (second_part (growth_for (caller_needs caller_turn)) call_growth
       (ap (λ (turn : Turn). (caller_needs turn).words) is_left.asks)
       (ap (λ (turn : Turn). (caller_needs turn).births) is_left.asks))
 
-  pub call_held : IsHeldUpAs (step_wants asks calling.caller trial.refused w) trial.slot new.heap
+  pub call_held : IsHeldUpAs (step_wants asks calling.caller attempt.refused w) attempt.slot new.heap
       new.grants reason
   call_held =
-      held_more call_growth (step_wants asks calling.caller trial.refused w) call_part trial.slot
+      held_more call_growth (step_wants asks calling.caller attempt.refused w) call_part attempt.slot
       new.heap new.grants reason
       (calls.held_up reason refl (with_machine calling.caller w at.left) at.left.context at.world
-      (there calling trial shown old new w at))
+      (there calling attempt shown old new w at))

@@ -9,9 +9,10 @@ use Rattle.ps_mem.proofs.KeepsLemmas.{Keeps-then}
 use Rattle.ps_ops_operands.specs.declared.failure.NotMade.{NotMade as Reason}
 use Rattle.ps_ops_operands.specs.Changes.{most_records, spent}
 use Rattle.ps_ops_control.specs.declared.frames.Cause.{Cause}
-use Rattle.ps_ops_state.specs.declared.lent.Trial.{Trial}
+use Rattle.ps_ops_state.specs.declared.lent.Runtime.{Runtime}
+use Rattle.ps_ops_state.specs.declared.lent.Attempt.{Attempt}
 use Rattle.ps_ops_state.specs.Acts.{Asked, AreFew}
-use Rattle.ps_ops_state.specs.Lent.{Lent, lent, IsShown}
+use Rattle.ps_ops_state.specs.Lent.{Lent, lent_of, IsShown}
 use Rattle.ps_ops_state.proofs.Meeting.{logs_then}
 use Rattle.ps_step_outcome.specs.declared.turned.Turned.{Turned}
 use Rattle.ps_step_outcome.specs.declared.turned.Turned.TheVariants.{Goes, Calls, Breaks, Ends}
@@ -27,7 +28,7 @@ use Rattle.ps_ctx_table.proofs.Turning.{member_at}
 use Rattle.ps_ctx.specs.declared.notes.Note.{Note}
 use Rattle.ps_ctx.specs.declared.notes.Note.TheVariants.{Nothing}
 use Rattle.ps_ctx.specs.declared.worlds.Calling.{Calling}
-use Rattle.ps_ctx.specs.Calls.{over, IsSameDesk}
+use Rattle.ps_ctx.specs.Calls.{over_of, IsSameDesk}
 use Rattle.ps_ctx.specs.Finishes.{calling_after, settled_desk, settled_held, Finishes}
 use Rattle.ps_ctx.specs.Held.{Held, held, CourseAt, IsSteadyHeld, course_in}
 use Rattle.ps_ctx.specs.Lending.{Lends, LendsDesk, RunsSo, TurnsSo}
@@ -48,16 +49,17 @@ left_waits (Ok note) calling now P waits = tt
 left_waits (Err reason) calling now P waits = λ none. absurd (cc)
 
 -- what was lent of a table is lent of what clauses see of it
-pub lends_desk : (identifier : ℕ) (goes : (old new : Lent) → Type 0) (old_heap new_heap : Heap)
-    (old_grants new_grants : Grants) (old new : Contexts)
-    → Lends identifier goes old_heap new_heap old_grants new_grants old new
-    → LendsDesk identifier goes (over old_heap old_grants old) (over new_heap new_grants new)
-lends_desk identifier goes old_heap new_heap old_grants new_grants old new lends = record {
+pub lends_desk : {M : Type 0} (identifier : ℕ) (goes : (old new : Lent) → Type 0)
+    (heap : M → Heap) (grants : M → Grants) (old_runtime new_runtime : Runtime M)
+    (old new : Contexts) → Lends identifier goes heap grants old_runtime new_runtime old new
+    → LendsDesk identifier goes (over_of heap grants old_runtime old)
+    (over_of heap grants new_runtime new)
+lends_desk identifier goes heap grants old_runtime new_runtime old new lends = record {
   member = lends.member;
   found = lends.found;
-  after = lent new_heap new_grants lends.after new.shared;
+  after = lent_of heap grants lends.after new_runtime;
   goes_on = lends.goes_on;
-  is = λ i. record (over new_heap new_grants new) {
+  is = λ i. record (over_of heap grants new_runtime new) {
     members = lends.table i;
     has_faulted = lends.faulted i;
   };
@@ -77,11 +79,11 @@ lends_runs asks identifier slot most made next framed old new lends = record {
 }
 
 module _ (asks : Status → Around → Scene → Asked) (unwinding : Option Cause)
-    (before after : Desk) (identifier : ℕ) (trial : Trial) (shown : Option (ℤ × ℤ))
+    (before after : Desk) (identifier : ℕ) (attempt : Attempt) (shown : Option (ℤ × ℤ))
     (steady : IsSteadyHeld (held before None))
     (course : CourseAt identifier (course_in unwinding) before.members)
     (result : Result Turned Reason)
-    (lends : LendsDesk identifier (TurnsSo asks unwinding trial result) before after) where
+    (lends : LendsDesk identifier (TurnsSo asks unwinding attempt result) before after) where
   abbrev l : Lent
   l = lends.after
 
@@ -94,9 +96,9 @@ module _ (asks : Status → Around → Scene → Asked) (unwinding : Option Caus
   -- ---- it was made
 
   module _ (turned : Turned) (ok : result ≡ Ok turned) where
-    made : TurnsSo asks unwinding trial (Ok turned)
+    made : TurnsSo asks unwinding attempt (Ok turned)
         (lent_to before lends.member.context) l
-    made = subst (λ r. TurnsSo asks unwinding trial r
+    made = subst (λ r. TurnsSo asks unwinding attempt r
         (lent_to before lends.member.context) l) ok lends.goes_on
 
     abbrev now : Member
@@ -117,19 +119,19 @@ module _ (asks : Status → Around → Scene → Asked) (unwinding : Option Caus
         subst (λ (d : Desk). IsSteadyHeld (held d (calling_after turned identifier)))
         (sym settled_is)
         (own_steady asks unwinding before steady.steady steady.framed identifier lends.member
-        lends.found course_is trial l turned made)
+        lends.found course_is attempt l turned made)
 
     settled_steps : calling_after turned identifier ≡ None
-        → Steps asks identifier trial shown (Ok Nothing) (held before None)
+        → Steps asks identifier attempt shown (Ok Nothing) (held before None)
         (held (settled_desk turned identifier after) (calling_after turned identifier))
     settled_steps none =
-        subst (λ calling. Steps asks identifier trial shown (Ok Nothing) (held before None)
+        subst (λ calling. Steps asks identifier attempt shown (Ok Nothing) (held before None)
         (held (settled_desk turned identifier after) calling)) (sym none)
-        (subst (λ (d : Desk). Steps asks identifier trial shown (Ok Nothing) (held before None)
+        (subst (λ (d : Desk). Steps asks identifier attempt shown (Ok Nothing) (held before None)
         (held d None)) (sym settled_is) (record {
           meets = λ w at ready.
               own_made asks unwinding before steady.steady steady.framed identifier lends.member
-              lends.found course_is trial l turned made none w at shown;
+              lends.found course_is attempt l turned made none w at shown;
           held_up = λ why bad. absurd (cc);
           same = λ w at. tt;
           waits = λ some. tt;
@@ -141,7 +143,7 @@ module _ (asks : Status → Around → Scene → Asked) (unwinding : Option Caus
           steady = subst (λ calling. IsSteadyHeld (held
               (desk_turned before identifier lends.member l turned) calling)) none
               (own_steady asks unwinding before steady.steady steady.framed identifier lends.member
-              lends.found course_is trial l turned made);
+              lends.found course_is attempt l turned made);
           program = made.stays.program;
           most = made.stays.most;
         }))
@@ -155,22 +157,22 @@ module _ (asks : Status → Around → Scene → Asked) (unwinding : Option Caus
         lends.member at.members lends.found)).did.leaves
 
     calls_at : (final : Held) (told : Result Note Reason)
-        → Steps asks identifier trial shown told
+        → Steps asks identifier attempt shown told
         (settled_held (Calls operator) identifier after) final
-        → Steps asks identifier trial shown told (held before None) final
+        → Steps asks identifier attempt shown told (held before None) final
     calls_at final told steps =
-        let on = subst (λ (d : Desk). Steps asks identifier trial shown told
+        let on = subst (λ (d : Desk). Steps asks identifier attempt shown told
         (held d (calling_after (Calls operator) identifier)) final)
         (settled_is (Calls operator) ok) steps in
         record {
           meets = λ w at ready.
               on.meets w
               (own_calls asks unwinding before steady.steady steady.framed identifier lends.member
-              lends.found course_is trial l operator (made (Calls operator) ok) w at) ready;
+              lends.found course_is attempt l operator (made (Calls operator) ok) w at) ready;
           held_up = λ why is w at ready.
               on.held_up why is w
               (own_calls asks unwinding before steady.steady steady.framed identifier lends.member
-              lends.found course_is trial l operator (made (Calls operator) ok) w at) ready;
+              lends.found course_is attempt l operator (made (Calls operator) ok) w at) ready;
           same = λ w at.
               left_waits told (record { caller = identifier; operator = operator }) final.calling
               (IsSameDesk before final.desk) (on.waits refl);
@@ -178,21 +180,21 @@ module _ (asks : Status → Around → Scene → Asked) (unwinding : Option Caus
           no_status = λ w at.
               on.no_status w
               (own_calls asks unwinding before steady.steady steady.framed identifier lends.member
-              lends.found course_is trial l operator (made (Calls operator) ok) w at);
+              lends.found course_is attempt l operator (made (Calls operator) ok) w at);
           leaves = λ w at is.
               on.leaves w
               (own_calls asks unwinding before steady.steady steady.framed identifier lends.member
-              lends.found course_is trial l operator (made (Calls operator) ok) w at) is
+              lends.found course_is attempt l operator (made (Calls operator) ok) w at) is
               ∙ own_leaves w at;
           caller = on.caller;
           logs = λ w at ready.
               logs_then 0 (spent told most_records) (spent told most_records) before.grants l.grants
-              final.desk.grants trial.slot (omega arith)
+              final.desk.grants attempt.slot (omega arith)
               (calls_logs asks unwinding before steady.steady steady.framed identifier lends.member
-              lends.found course_is trial l operator (made (Calls operator) ok) w at)
+              lends.found course_is attempt l operator (made (Calls operator) ok) w at)
               (on.logs w
               (own_calls asks unwinding before steady.steady steady.framed identifier lends.member
-              lends.found course_is trial l operator (made (Calls operator) ok) w at) ready);
+              lends.found course_is attempt l operator (made (Calls operator) ok) w at) ready);
           keeps = Keeps-then before.heap l.heap final.desk.heap (made (Calls operator) ok).keeps
               on.keeps;
           steady = on.steady;
@@ -201,29 +203,29 @@ module _ (asks : Status → Around → Scene → Asked) (unwinding : Option Caus
         }
 
   pub turned_finishes : (turned : Turned) → result ≡ Ok turned → (told : Result Note Reason)
-      (final : Held) → Finishes turned identifier trial shown told
+      (final : Held) → Finishes turned identifier attempt shown told
       (settled_held turned identifier after) final
-      → Steps asks identifier trial shown told (held before None) final
+      → Steps asks identifier attempt shown told (held before None) final
   turned_finishes Goes ok told final is =
-      subst (λ r. Steps asks identifier trial shown r (held before None) final) (sym is.0)
-      (subst (Steps asks identifier trial shown (Ok Nothing) (held before None)) (sym is.1)
+      subst (λ r. Steps asks identifier attempt shown r (held before None) final) (sym is.0)
+      (subst (Steps asks identifier attempt shown (Ok Nothing) (held before None)) (sym is.1)
       (settled_steps Goes ok refl))
   turned_finishes (Calls operator) ok told final is = calls_at operator ok final told (is asks)
   turned_finishes (Breaks cause) ok told final is =
-      subst (λ r. Steps asks identifier trial shown r (held before None) final) (sym is.0)
-      (subst (Steps asks identifier trial shown (Ok Nothing) (held before None)) (sym is.1)
+      subst (λ r. Steps asks identifier attempt shown r (held before None) final) (sym is.0)
+      (subst (Steps asks identifier attempt shown (Ok Nothing) (held before None)) (sym is.1)
       (settled_steps (Breaks cause) ok refl))
   turned_finishes (Ends told_line) ok told final is =
-      subst (λ r. Steps asks identifier trial shown r (held before None) final) (sym is.0)
-      (subst (Steps asks identifier trial shown (Ok Nothing) (held before None)) (sym is.1)
+      subst (λ r. Steps asks identifier attempt shown r (held before None) final) (sym is.0)
+      (subst (Steps asks identifier attempt shown (Ok Nothing) (held before None)) (sym is.1)
       (settled_steps (Ends told_line) ok refl))
 
   -- ---- it was not
 
   module _ (few : AreFew asks) (reason : Reason) (err : result ≡ Err reason) where
-    unmade : TurnsSo asks unwinding trial (Err reason)
+    unmade : TurnsSo asks unwinding attempt (Err reason)
         (lent_to before lends.member.context) l
-    unmade = subst (λ r. TurnsSo asks unwinding trial r
+    unmade = subst (λ r. TurnsSo asks unwinding attempt r
         (lent_to before lends.member.context) l) err lends.goes_on
 
     frames_are : HasFrame lends.member.course l.frames
@@ -232,17 +234,17 @@ module _ (asks : Status → Around → Scene → Asked) (unwinding : Option Caus
         (member_at (λ one. HasFrame one.course one.context.frames) before.members identifier
         lends.member steady.framed lends.found)
 
-    pub unmade_steps : Steps asks identifier trial shown (Err reason) (held before None)
+    pub unmade_steps : Steps asks identifier attempt shown (Err reason) (held before None)
         (held after None)
     unmade_steps =
-        subst (λ (d : Desk). Steps asks identifier trial shown (Err reason) (held before None)
+        subst (λ (d : Desk). Steps asks identifier attempt shown (Err reason) (held before None)
         (held d None)) (sym lends.is) (record {
           meets = λ w at ready.
               own_unmade asks unwinding before steady.steady steady.framed identifier lends.member
-              lends.found course_is trial l reason unmade w at;
+              lends.found course_is attempt l reason unmade w at;
           held_up = λ why is w at ready.
-              own_held asks unwinding before identifier lends.member lends.found course_is trial
-              few why l (subst (λ r. TurnsSo asks unwinding trial (Err r)
+              own_held asks unwinding before identifier lends.member lends.found course_is attempt
+              few why l (subst (λ r. TurnsSo asks unwinding attempt (Err r)
               (lent_to before lends.member.context) l)
               (same_reason reason why is) unmade) w at;
           same = λ w at. λ kept.
@@ -257,7 +259,7 @@ module _ (asks : Status → Around → Scene → Asked) (unwinding : Option Caus
           keeps = unmade.keeps;
           steady = record {
             steady = unmade_is_steady asks unwinding before steady.steady steady.framed identifier
-                lends.member lends.found course_is trial l reason unmade;
+                lends.member lends.found course_is attempt l reason unmade;
             framed = with_item_members (λ one. HasFrame one.course one.context.frames) before.members
                 identifier (Some (record lends.member { context = returned l })) steady.framed
                 frames_are;

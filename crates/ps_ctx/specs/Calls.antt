@@ -16,7 +16,9 @@ use Rattle.ps_mem.specs.Keeps.{Keeps}
 use Rattle.ps_ops_operands.specs.declared.failure.NotMade.{NotMade as Reason}
 use Rattle.ps_ops_operands.specs.declared.failure.NotMade.TheVariants.{LogFull, LogClosed, NeedSpace, Memory}
 use Rattle.ps_ops_operands.specs.Changes.{KeepsLogsWithin, most_records, spent}
-use Rattle.ps_ops_state.specs.declared.lent.Trial.{Trial}
+use Rattle.ps_ops_state.specs.declared.lent.Runtime.{Runtime}
+use Rattle.ps_ops_state.specs.declared.lent.Shared.{Shared}
+use Rattle.ps_ops_state.specs.declared.lent.Attempt.{Attempt}
 use Rattle.ps_ops_state.specs.Acts.{no_rooms}
 use Rattle.ps_step_outcome.specs.Turns.{calling_of, error_needs, IsUnlogged}
 use Rattle.ps_ctx_table.specs.declared.contexts.Contexts.{Contexts}
@@ -31,9 +33,13 @@ use Rattle.ps_ctx.specs.Notes.{note_of, IsNoStatus}
 
 -- ---- the desk
 
-abbrev pub over : Heap → Grants → Contexts → Desk
-over heap grants contexts =
-    desk heap grants contexts.table contexts.shared contexts.has_faulted
+abbrev pub over : Heap → Grants → Shared → Contexts → Desk
+over heap grants shared contexts = desk heap grants contexts.table shared contexts.has_faulted
+
+-- of what all contexts share, with the memory's heap and grants
+abbrev pub over_of : {M : Type 0} → (M → Heap) → (M → Grants) → Runtime M → Contexts → Desk
+over_of heap grants runtime contexts =
+    over (heap runtime.memory) (grants runtime.memory) runtime.shared contexts
 
 -- the context of an identifier is there, and runs
 pub record RunsAt (identifier : ℕ) (members : List (Option Member)) : Type 0 where
@@ -101,11 +107,11 @@ CallsTo (Err reason) stepped before new = IsWorld new before
 
 -- For every world that the desk is of. What isn't made is no vmstatus that acts, and one that acts
 -- leaves the memory as it was
-pub record Calls (operator : Operator) (caller : ℕ) (trial : Trial) (shown : Option (ℤ × ℤ))
+pub record Calls (operator : Operator) (caller : ℕ) (attempt : Attempt) (shown : Option (ℤ × ℤ))
     (result : Result Note Reason) (old new : Desk) : Type 0 where
   pub meets : (w : World) (context : Context) → IsWorld old w
       → context_at w caller ≡ Some context
-      → CallsTo result (called (calling_of operator) caller trial.refused shown w context) w new
+      → CallsTo result (called (calling_of operator) caller attempt.refused shown w context) w new
   pub steady : IsSteady new
   pub keeps : Keeps old.heap new.heap
   pub program : new.program ≡ old.program
@@ -115,9 +121,9 @@ pub record Calls (operator : Operator) (caller : ℕ) (trial : Trial) (shown : O
   pub same : (w : World) → IsWorld old w → OnErr result (IsSameDesk old new)
   pub held_up : (reason : Reason) → result ≡ Err reason → (w : World) (context : Context)
       → IsWorld old w → context_at w caller ≡ Some context
-      → IsHeldUpAs (call_wants (calling_of operator) caller trial.refused w context) trial.slot
+      → IsHeldUpAs (call_wants (calling_of operator) caller attempt.refused w context) attempt.slot
       new.heap new.grants reason
-  pub logs : KeepsLogsWithin (spent result most_records) old.grants new.grants trial.slot
+  pub logs : KeepsLogsWithin (spent result most_records) old.grants new.grants attempt.slot
   pub no_status : (w : World) (context : Context) → IsWorld old w
       → context_at w caller ≡ Some context → OnErr result ((refused : Bool)
       (any : Option (ℤ × ℤ)) → IsNoStatus
@@ -138,7 +144,7 @@ RetakesTo (Ok _) after before new = IsWorld new after
 RetakesTo (Err reason) after before new = IsWorld new before
 
 -- for every world that the desk is of
-pub record Retakes (caller : ℕ) (trial : Trial) (result : Result Unit Reason) (old new : Desk)
+pub record Retakes (caller : ℕ) (attempt : Attempt) (result : Result Unit Reason) (old new : Desk)
     : Type 0 where
   pub meets : (w : World) (context : Context) (lock : ℕ) → IsWorld old w
       → context_at w caller ≡ Some context → context.status ≡ retaking lock
@@ -151,5 +157,5 @@ pub record Retakes (caller : ℕ) (trial : Trial) (result : Result Unit Reason) 
   pub framed : AreFramed old.members → AreFramed new.members
   pub unmade : OnErr result (IsSameDesk old new)
   pub held_up : (reason : Reason) → result ≡ Err reason
-      → IsUnlogged 1 trial.slot old.grants new.grants reason
-  pub logs : KeepsLogsWithin (spent result 1) old.grants new.grants trial.slot
+      → IsUnlogged 1 attempt.slot old.grants new.grants reason
+  pub logs : KeepsLogsWithin (spent result 1) old.grants new.grants attempt.slot

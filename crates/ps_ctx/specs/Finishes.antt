@@ -3,7 +3,7 @@ use Rattle.std.specs.Prelude.{◌≡◌, ℕ, ℤ, ◌||◌, Option, Some, None,
 use Rattle.ps_language.specs.Effect.{Around, Scene}
 use Rattle.ps_language.specs.World.{Status}
 use Rattle.ps_ops_operands.specs.declared.failure.NotMade.{NotMade as Reason}
-use Rattle.ps_ops_state.specs.declared.lent.Trial.{Trial}
+use Rattle.ps_ops_state.specs.declared.lent.Attempt.{Attempt}
 use Rattle.ps_ops_state.specs.Acts.{Asked}
 use Rattle.ps_step_outcome.specs.declared.turned.Turned.{Turned}
 use Rattle.ps_step_outcome.specs.declared.turned.Turned.TheVariants.{Calls}
@@ -32,9 +32,10 @@ settled_held turned identifier d =
     held (settled_desk turned identifier d) (calling_after turned identifier)
 
 -- a turn that calls comes to what the call comes to; any other has settled
-abbrev pub Finishes : Turned → (identifier : ℕ) → Trial → (shown : Option (ℤ × ℤ))
+abbrev pub Finishes : Turned → (identifier : ℕ) → Attempt → (shown : Option (ℤ × ℤ))
     → Result Note Reason → (settled new : Held) → Type 0
-Finishes (Calls operator) identifier trial shown result settled new =
-    (asks : Status → Around → Scene → Asked) → Steps asks identifier trial shown result settled new
-Finishes turned identifier trial shown result settled new =
+Finishes (Calls operator) identifier attempt shown result settled new =
+    (asks : Status → Around → Scene → Asked) → Steps asks identifier attempt shown result settled
+    new
+Finishes turned identifier attempt shown result settled new =
     (result ≡ Ok Nothing) × (new ≡ settled)

@@ -6,9 +6,10 @@ use Rattle.ps_mem.specs.Heap.{Heap, Grants}
 use Rattle.ps_ops_operands.specs.declared.failure.NotMade.{NotMade as Reason}
 use Rattle.ps_ops_control.specs.declared.frames.Cause.{Cause}
 use Rattle.ps_ops_state.specs.declared.lent.Context.{Context}
-use Rattle.ps_ops_state.specs.declared.lent.Trial.{Trial}
+use Rattle.ps_ops_state.specs.declared.lent.Runtime.{Runtime}
+use Rattle.ps_ops_state.specs.declared.lent.Attempt.{Attempt}
 use Rattle.ps_ops_state.specs.Acts.{Asked}
-use Rattle.ps_ops_state.specs.Lent.{Lent, lent}
+use Rattle.ps_ops_state.specs.Lent.{Lent, lent_of}
 use Rattle.ps_step_outcome.specs.declared.turned.Turned.{Turned}
 use Rattle.ps_step_outcome.specs.Turns.{Turns}
 use Rattle.ps_step_interpreter.specs.Interprets.{asks_in, own_turn}
@@ -20,13 +21,14 @@ use Rattle.ps_ctx_table.specs.Seats.{item_at, with_item}
 
 -- What was lent of the context of an identifier went on so, and all other contexts, and how far
 -- each is, are as they were
-pub record Lends (identifier : ℕ) (goes : (old new : Lent) → Type 0) (old_heap new_heap : Heap)
-    (old_grants new_grants : Grants) (old new : Contexts) : Type 0 where
+pub record Lends {M : Type 0} (identifier : ℕ) (goes : (old new : Lent) → Type 0)
+    (heap : M → Heap) (grants : M → Grants) (old_runtime new_runtime : Runtime M)
+    (old new : Contexts) : Type 0 where
   pub member : Member
   pub found : item_at old.table identifier ≡ Some member
   pub after : Context
-  pub goes_on : goes (lent old_heap old_grants member.context old.shared)
-      (lent new_heap new_grants after new.shared)
+  pub goes_on : goes (lent_of heap grants member.context old_runtime)
+      (lent_of heap grants after new_runtime)
   pub table : new.table ≡ with_item old.table identifier (Some (record member { context = after }))
   pub faulted : new.has_faulted ≡ old.has_faulted
 
@@ -50,7 +52,7 @@ pub record RunsSo (asks : Status → Around → Scene → Asked) (slot most made
   pub left : framed ≡ true → new.frames ≢ []
 
 -- its turn
-abbrev pub TurnsSo : (asks : Status → Around → Scene → Asked) → (unwinding : Option Cause) → Trial
+abbrev pub TurnsSo : (asks : Status → Around → Scene → Asked) → (unwinding : Option Cause) → Attempt
     → Result Turned Reason → (old new : Lent) → Type 0
-TurnsSo asks unwinding trial result old new =
-    Turns (asks_in asks unwinding) (own_turn unwinding) trial result old new
+TurnsSo asks unwinding attempt result old new =
+    Turns (asks_in asks unwinding) (own_turn unwinding) attempt result old new

@@ -13,9 +13,9 @@ use Rattle.ps_mem.specs.Keeps.{Keeps}
 use Rattle.ps_mem.specs.Stands.{IsAddressed}
 use Rattle.ps_ops_operands.specs.declared.failure.NotMade.{NotMade as Reason}
 use Rattle.ps_ops_operands.specs.Changes.{KeepsLogsWithin, most_records, spent}
-use Rattle.ps_ops_state.specs.declared.lent.Trial.{Trial}
+use Rattle.ps_ops_state.specs.declared.lent.Attempt.{Attempt}
 use Rattle.ps_ops_state.specs.Acts.{Asked}
-use Rattle.ps_ops_state.specs.Trials.{ordinary}
+use Rattle.ps_ops_state.specs.Attempts.{ordinary}
 use Rattle.ps_ctx_table.specs.Desks.{IsWorld}
 use Rattle.ps_ctx_table.specs.Moves.{plain_moves}
 use Rattle.ps_ctx.specs.declared.notes.Note.{Note}
@@ -38,13 +38,13 @@ StepsTo (Err reason) stepped before new = IsAt new before
 -- newly left by it; a call that waited waits still. No vmstatus that acts waits, and one that acts
 -- leaves the memory as it was. What stood goes on standing, the logs are kept, and a call that
 -- waits is of this context
-pub record Steps (asks : Status → Around → Scene → Asked) (identifier : ℕ) (trial : Trial)
+pub record Steps (asks : Status → Around → Scene → Asked) (identifier : ℕ) (attempt : Attempt)
     (shown : Option (ℤ × ℤ)) (result : Result Note Reason) (old new : Held) : Type 0 where
   pub meets : (w : World) → IsAt old w → is_ready w identifier ≡ true
-      → StepsTo result (stepped w identifier trial.refused shown) w new
+      → StepsTo result (stepped w identifier attempt.refused shown) w new
   pub held_up : (reason : Reason) → result ≡ Err reason → (w : World) → IsAt old w
       → is_ready w identifier ≡ true
-      → IsHeldUpAs (step_wants asks identifier trial.refused w) trial.slot new.desk.heap
+      → IsHeldUpAs (step_wants asks identifier attempt.refused w) attempt.slot new.desk.heap
       new.desk.grants reason
   pub same : (w : World) → IsAt old w
       → OnErr result (new.calling ≡ old.calling → IsSameDesk old.desk new.desk)
@@ -53,7 +53,7 @@ pub record Steps (asks : Status → Around → Scene → Asked) (identifier : �
       → OnErr result (IfSome new.calling (λ calling. HasNoStatus w calling.caller))
   pub leaves : (w : World) → IsAt old w → result ≡ Ok ShowsMemory → new.desk.heap ≡ old.desk.heap
   pub logs : (w : World) → IsAt old w → is_ready w identifier ≡ true
-      → KeepsLogsWithin (spent result most_records) old.desk.grants new.desk.grants trial.slot
+      → KeepsLogsWithin (spent result most_records) old.desk.grants new.desk.grants attempt.slot
   pub keeps : Keeps old.desk.heap new.desk.heap
   pub steady : IsSteadyHeld new
   pub program : new.desk.program ≡ old.desk.program

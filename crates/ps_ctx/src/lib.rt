@@ -21,6 +21,7 @@
 
 pub mod deeds;
 pub mod laws;
+pub mod makers;
 pub mod notes;
 mod retries;
 pub mod runs;

@@ -3,19 +3,20 @@
 ghost use Rattle.std.specs.Prelude.{◌≡◌, ◌<◌, ◌≤◌, Some, None, IsSome, IsNone, IfOk, IfSome};
 ghost use Rattle.std.specs.Prelude.{is_some, if◌then◌else◌};
 ghost use Rattle.ps_ctx_table.specs.Seats.{item_at};
-ghost use Rattle.ps_ctx.specs.Calls.{over};
+ghost use Rattle.ps_ctx.specs.Calls.{over_of};
 ghost use Rattle.ps_ctx.specs.Held.{held, CourseAt, IsSteadyHeld, MayStep, course_in};
 ghost use Rattle.ps_ctx.specs.Steps as steps;
 ghost use Rattle.ps_ctx.specs.Steps.{GoesOn, IsCounted, IsUnready};
 
 use crate::deeds::Deeds;
+use crate::makers::Makers;
 use crate::notes::Note;
 use crate::turns::{Ran, run_of};
 use crate::worlds::World;
 use ps_ctx_table::members::Course;
 use ps_mem::{Memory, Slot};
 use ps_ops_operands::failure::NotMade;
-use ps_ops_state::lent::Trial;
+use ps_ops_state::lent::{Attempt, Runtime};
 use ps_step_interpreter::interprets::Interpret;
 use ps_step_outcome::turned::Turned;
 
@@ -59,16 +60,15 @@ fn shown_by<M: Memory>(memory: &mut M, shows: bool) -> Option<(i32, i32)>
     Some((used, size))
 }
 
-impl World<'_> {
+impl World {
     /// Makes ordinary steps of a context one after another, at most so many, as long as it goes on
     /// by itself, and tells what the step behind them came to, which may call an operator on other
     /// contexts; of a context that doesn't run, or whose call waits, that step alone. Shows says
     /// whether `vmstatus` shows the memory just before its step, or three zeros.
-    pub fn go_on<S: Interpret, D: Deeds, M: Memory>(
+    pub fn go_on<S: Interpret + Drop, D: Deeds + Drop, M: Memory>(
         &mut self,
-        interpret: &mut S,
-        deeds: &mut D,
-        memory: &mut M,
+        makers: &mut Makers<S, D>,
+        runtime: &mut Runtime<M>,
         identifier: u32,
         slot: Slot,
         most: u32,
@@ -78,32 +78,32 @@ impl World<'_> {
         requires there { IsSome (item_at self.old.contexts.table identifier) }
         requires may { MayStep self.old.calling identifier }
         requires steady { IsSteadyHeld
-            (held (over (M.heap memory.old) (M.grants memory.old) self.old.contexts)
+            (held (over_of M.heap M.grants runtime.old self.old.contexts)
             self.old.calling) }
         ensures within { result.made ≤ most }
         ensures fewer { IsSome result.next → result.made < most }
         ensures shown { IfSome result.next
             (λ next. IfOk next.told (λ note. is_some next.shown ≡ shows)) }
         ensures ended { IsNone result.next → result.made < most → IsUnready identifier
-            (held (over (M.heap memory.new) (M.grants memory.new) self.new.contexts)
+            (held (over_of M.heap M.grants runtime.new self.new.contexts)
             self.new.calling) }
         ensures idle { IsNone result.next → self.new.calling ≡ None }
         ensures makes { GoesOn S.asks identifier slot result.made result.next
-            (held (over (M.heap memory.old) (M.grants memory.old) self.old.contexts)
+            (held (over_of M.heap M.grants runtime.old self.old.contexts)
             self.old.calling)
-            (held (over (M.heap memory.new) (M.grants memory.new) self.new.contexts)
+            (held (over_of M.heap M.grants runtime.new self.new.contexts)
             self.new.calling) }
     {
         let course = self.course(identifier);
         if self.calling.is_none() && course == Course::Running {
-            return self.run(interpret, deeds, memory, identifier, slot, most, shows);
+            return self.run(makers, runtime, identifier, slot, most, shows);
         }
-        let shown = shown_by(memory, shows);
-        let trial = Trial {
+        let shown = shown_by(&mut runtime.memory, shows);
+        let attempt = Attempt {
             slot,
             refused: false,
         };
-        let told = self.step(interpret, deeds, memory, identifier, trial, shown);
+        let told = self.step(makers, runtime, identifier, attempt, shown);
         Advance {
             made: 0,
             next: Some(Next { told, shown }),
@@ -111,11 +111,10 @@ impl World<'_> {
     }
 
     /// The steps of a running context.
-    fn run<S: Interpret, D: Deeds, M: Memory>(
+    fn run<S: Interpret + Drop, D: Deeds + Drop, M: Memory>(
         &mut self,
-        interpret: &mut S,
-        deeds: &mut D,
-        memory: &mut M,
+        makers: &mut Makers<S, D>,
+        runtime: &mut Runtime<M>,
         identifier: u32,
         slot: Slot,
         most: u32,
@@ -124,22 +123,29 @@ impl World<'_> {
         requires course { CourseAt identifier (course_in None) self.old.contexts.table }
         requires calling { self.old.calling ≡ None }
         requires steady { IsSteadyHeld
-            (held (over (M.heap memory.old) (M.grants memory.old) self.old.contexts) None) }
+            (held (over_of M.heap M.grants runtime.old self.old.contexts) None) }
         ensures within { result.made ≤ most }
         ensures fewer { IsSome result.next → result.made < most }
         ensures shown { IfSome result.next
             (λ next. IfOk next.told (λ note. is_some next.shown ≡ shows)) }
         ensures ended { IsNone result.next → result.made < most → IsUnready identifier
-            (held (over (M.heap memory.new) (M.grants memory.new) self.new.contexts)
+            (held (over_of M.heap M.grants runtime.new self.new.contexts)
             self.new.calling) }
         ensures idle { IsNone result.next → self.new.calling ≡ None }
         ensures makes { GoesOn S.asks identifier slot result.made result.next
-            (held (over (M.heap memory.old) (M.grants memory.old) self.old.contexts) None)
-            (held (over (M.heap memory.new) (M.grants memory.new) self.new.contexts)
+            (held (over_of M.heap M.grants runtime.old self.old.contexts) None)
+            (held (over_of M.heap M.grants runtime.new self.new.contexts)
             self.new.calling) }
     {
         let contexts = &mut self.contexts;
-        let Ran { run, framed } = run_of(contexts, identifier, interpret, memory, slot, most);
+        let Ran { run, framed } = run_of(
+            contexts,
+            identifier,
+            &mut makers.steps,
+            runtime,
+            slot,
+            most,
+        );
         let made = run.made;
         let Some(next) = run.next else {
             if framed {
@@ -161,12 +167,13 @@ impl World<'_> {
                 };
             }
         };
-        let shown = shown_by(memory, shows);
-        let trial = Trial {
+        let shown = shown_by(&mut runtime.memory, shows);
+        let attempt = Attempt {
             slot,
             refused: false,
         };
-        let told = self.finish(turned, deeds, memory, identifier, trial, shown);
+        let operators = &mut makers.operators;
+        let told = self.finish(turned, operators, runtime, identifier, attempt, shown);
         Advance {
             made,
             next: Some(Next { told, shown }),

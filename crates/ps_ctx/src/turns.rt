@@ -2,7 +2,7 @@
 
 ghost use Rattle.std.specs.Prelude.{◌≡◌, ◌<◌, ◌≤◌, None, IsSome};
 ghost use Rattle.ps_ctx_table.specs.Desks.{IsSteady, AreFramed};
-ghost use Rattle.ps_ctx.specs.Calls.{over};
+ghost use Rattle.ps_ctx.specs.Calls.{over_of};
 ghost use Rattle.ps_ctx.specs.Held.{CourseAt, course_in};
 ghost use Rattle.ps_ctx.specs.Lending.{Lends, RunsSo, TurnsSo};
 
@@ -10,7 +10,7 @@ use ps_ctx_table::contexts::Contexts;
 use ps_mem::{Memory, Slot};
 use ps_ops_control::frames::Cause;
 use ps_ops_operands::failure::NotMade;
-use ps_ops_state::lent::Trial;
+use ps_ops_state::lent::{Attempt, Runtime};
 use ps_step_interpreter::interprets::{Interpret, Run};
 use ps_step_outcome::turned::Turned;
 
@@ -19,25 +19,18 @@ pub fn turn_of<S: Interpret, M: Memory>(
     contexts: &mut Contexts,
     identifier: u32,
     unwinding: Option<Cause>,
-    interpret: &mut S,
-    memory: &mut M,
-    trial: Trial,
+    steps: &mut S,
+    runtime: &mut Runtime<M>,
+    attempt: Attempt,
 ) -> Result<Turned, NotMade>
     requires course { CourseAt identifier (course_in unwinding) contexts.old.table }
-    requires steady { IsSteady
-        (over (M.heap memory.old) (M.grants memory.old) contexts.old) }
+    requires steady { IsSteady (over_of M.heap M.grants runtime.old contexts.old) }
     requires framed { AreFramed contexts.old.table }
-    ensures { Lends identifier (TurnsSo S.asks unwinding trial result) (M.heap memory.old)
-        (M.heap memory.new) (M.grants memory.old) (M.grants memory.new) contexts.old contexts.new }
+    ensures { Lends identifier (TurnsSo S.asks unwinding attempt result) M.heap M.grants
+        runtime.old runtime.new contexts.old contexts.new }
 {
     let member = contexts.table.get_mut(identifier);
-    interpret.step(
-        unwinding,
-        &mut member.context,
-        &mut contexts.shared,
-        memory,
-        trial,
-    )
+    steps.step(unwinding, &mut member.context, runtime, attempt)
 }
 
 /// Ordinary steps that were made of a context, and whether it has a frame left.
@@ -51,28 +44,21 @@ pub struct Ran {
 pub fn run_of<S: Interpret, M: Memory>(
     contexts: &mut Contexts,
     identifier: u32,
-    interpret: &mut S,
-    memory: &mut M,
+    steps: &mut S,
+    runtime: &mut Runtime<M>,
     slot: Slot,
     most: u32,
 ) -> Ran
     requires course { CourseAt identifier (course_in None) contexts.old.table }
-    requires steady { IsSteady
-        (over (M.heap memory.old) (M.grants memory.old) contexts.old) }
+    requires steady { IsSteady (over_of M.heap M.grants runtime.old contexts.old) }
     ensures within { result.run.made ≤ most }
     ensures fewer { IsSome result.run.next → result.run.made < most }
     ensures lends { Lends identifier
-        (RunsSo S.asks slot most result.run.made result.run.next result.framed) (M.heap memory.old)
-        (M.heap memory.new) (M.grants memory.old) (M.grants memory.new) contexts.old contexts.new }
+        (RunsSo S.asks slot most result.run.made result.run.next result.framed) M.heap M.grants
+        runtime.old runtime.new contexts.old contexts.new }
 {
     let member = contexts.table.get_mut(identifier);
-    let run = interpret.run(
-        most,
-        slot,
-        &mut member.context,
-        &mut contexts.shared,
-        memory,
-    );
+    let run = steps.run(most, slot, &mut member.context, runtime);
     let framed = !member.context.frames.is_empty();
     Ran { run, framed }
 }

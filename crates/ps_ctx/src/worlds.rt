@@ -5,12 +5,13 @@ ghost use Rattle.ps_language.specs.Effect.{Around, Scene};
 ghost use Rattle.ps_language.specs.World.{Status};
 ghost use Rattle.ps_ops_state.specs.Acts.{Asked};
 ghost use Rattle.ps_ctx_table.specs.Seats.{item_at};
-ghost use Rattle.ps_ctx.specs.Calls.{over};
+ghost use Rattle.ps_ctx.specs.Calls.{over_of};
 ghost use Rattle.ps_ctx.specs.Finishes.{settled_held, Finishes};
 ghost use Rattle.ps_ctx.specs.Held.{held, CourseAt, IsSteadyHeld, MayStep, course_in};
 ghost use Rattle.ps_ctx.specs.Steps.{Steps};
 
 use crate::deeds::Deeds;
+use crate::makers::Makers;
 use crate::notes::Note;
 use crate::retries::retried;
 use crate::turns::turn_of;
@@ -20,7 +21,7 @@ use ps_language::operators::Operator;
 use ps_mem::Memory;
 use ps_ops_control::frames::Cause;
 use ps_ops_operands::failure::NotMade;
-use ps_ops_state::lent::Trial;
+use ps_ops_state::lent::{Attempt, Runtime};
 use ps_step_interpreter::interprets::Interpret;
 use ps_step_outcome::turned::Turned;
 
@@ -33,52 +34,52 @@ pub struct Calling {
 
 /// All contexts, over a memory that is given to each step.
 #[derive(Drop)]
-pub struct World<'a> {
-    pub contexts: Contexts<'a>,
+pub struct World {
+    pub contexts: Contexts,
     /// A call that could not be made: no other context makes a step before it is.
     pub calling: Option<Calling>,
 }
 
-impl World<'_> {
+impl World {
     /// Makes the step of a context that is there, whose records go into the log of a slot;
     /// `vmstatus` shows the given pair.
     ///
     /// Not made: as the turn of the context, or the operator that it calls. Then all is at the same
     /// world as before; of a call the element may be taken, and the next step goes on from there.
-    pub fn step<S: Interpret, D: Deeds, M: Memory>(
+    pub fn step<S: Interpret + Drop, D: Deeds + Drop, M: Memory>(
         &mut self,
-        interpret: &mut S,
-        deeds: &mut D,
-        memory: &mut M,
+        makers: &mut Makers<S, D>,
+        runtime: &mut Runtime<M>,
         identifier: u32,
-        trial: Trial,
+        attempt: Attempt,
         shown: Option<(i32, i32)>,
     ) -> Result<Note, NotMade>
         requires there { IsSome (item_at self.old.contexts.table identifier) }
         requires may { MayStep self.old.calling identifier }
         requires steady { IsSteadyHeld
-            (held (over (M.heap memory.old) (M.grants memory.old) self.old.contexts)
+            (held (over_of M.heap M.grants runtime.old self.old.contexts)
             self.old.calling) }
-        ensures { Steps S.asks identifier trial shown result
-            (held (over (M.heap memory.old) (M.grants memory.old) self.old.contexts)
+        ensures { Steps S.asks identifier attempt shown result
+            (held (over_of M.heap M.grants runtime.old self.old.contexts)
             self.old.calling)
-            (held (over (M.heap memory.new) (M.grants memory.new) self.new.contexts)
+            (held (over_of M.heap M.grants runtime.new self.new.contexts)
             self.new.calling) }
     {
         if let Some(calling) = self.calling {
-            return self.call(calling, deeds, memory, trial, shown);
+            return self.call(calling, &mut makers.operators, runtime, attempt, shown);
         }
         match self.course(identifier) {
-            Course::Running => self.own(None, interpret, deeds, memory, identifier, trial, shown),
+            Course::Running => self.own(None, makers, runtime, identifier, attempt, shown),
             Course::Unwinding(cause) => {
                 let unwinding = Some(cause);
-                self.own(
-                    unwinding, interpret, deeds, memory, identifier, trial, shown,
-                )
+                self.own(unwinding, makers, runtime, identifier, attempt, shown)
             }
-            Course::Again => self.retry(deeds, memory, identifier, trial, shown),
+            Course::Again => self.retry(&mut makers.operators, runtime, identifier, attempt, shown),
             Course::Retaking { .. } => {
-                match deeds.retake(identifier, &mut self.contexts, memory, trial) {
+                match makers
+                    .operators
+                    .retake(identifier, &mut self.contexts, runtime, attempt)
+                {
                     Ok(()) => Ok(Note::Nothing),
                     Err(reason) => Err(reason),
                 }
@@ -101,29 +102,38 @@ impl World<'_> {
     }
 
     /// The turn of a context that runs, or is unwinding for a cause.
-    fn own<S: Interpret, D: Deeds, M: Memory>(
+    fn own<S: Interpret + Drop, D: Deeds + Drop, M: Memory>(
         &mut self,
         unwinding: Option<Cause>,
-        interpret: &mut S,
-        deeds: &mut D,
-        memory: &mut M,
+        makers: &mut Makers<S, D>,
+        runtime: &mut Runtime<M>,
         identifier: u32,
-        trial: Trial,
+        attempt: Attempt,
         shown: Option<(i32, i32)>,
     ) -> Result<Note, NotMade>
         requires course { CourseAt identifier (course_in unwinding) self.old.contexts.table }
         requires calling { self.old.calling ≡ None }
         requires steady { IsSteadyHeld
-            (held (over (M.heap memory.old) (M.grants memory.old) self.old.contexts) None) }
-        ensures { Steps S.asks identifier trial shown result
-            (held (over (M.heap memory.old) (M.grants memory.old) self.old.contexts) None)
-            (held (over (M.heap memory.new) (M.grants memory.new) self.new.contexts)
+            (held (over_of M.heap M.grants runtime.old self.old.contexts) None) }
+        ensures { Steps S.asks identifier attempt shown result
+            (held (over_of M.heap M.grants runtime.old self.old.contexts) None)
+            (held (over_of M.heap M.grants runtime.new self.new.contexts)
             self.new.calling) }
     {
-        let again = trial;
+        let same_attempt = attempt;
         let contexts = &mut self.contexts;
-        match turn_of(contexts, identifier, unwinding, interpret, memory, trial) {
-            Ok(turned) => self.finish(turned, deeds, memory, identifier, again, shown),
+        match turn_of(
+            contexts,
+            identifier,
+            unwinding,
+            &mut makers.steps,
+            runtime,
+            attempt,
+        ) {
+            Ok(turned) => {
+                let operators = &mut makers.operators;
+                self.finish(turned, operators, runtime, identifier, same_attempt, shown)
+            }
             Err(reason) => Err(reason),
         }
     }
@@ -133,19 +143,19 @@ impl World<'_> {
     pub(crate) fn finish<D: Deeds, M: Memory>(
         &mut self,
         turned: Turned,
-        deeds: &mut D,
-        memory: &mut M,
+        operators: &mut D,
+        runtime: &mut Runtime<M>,
         identifier: u32,
-        trial: Trial,
+        attempt: Attempt,
         shown: Option<(i32, i32)>,
     ) -> Result<Note, NotMade>
         requires there { IsSome (item_at self.old.contexts.table identifier) }
         requires calling { self.old.calling ≡ None }
         requires steady { IsSteadyHeld (settled_held turned identifier
-            (over (M.heap memory.old) (M.grants memory.old) self.old.contexts)) }
-        ensures { Finishes turned identifier trial shown result (settled_held turned identifier
-            (over (M.heap memory.old) (M.grants memory.old) self.old.contexts))
-            (held (over (M.heap memory.new) (M.grants memory.new) self.new.contexts)
+            (over_of M.heap M.grants runtime.old self.old.contexts)) }
+        ensures { Finishes turned identifier attempt shown result (settled_held turned identifier
+            (over_of M.heap M.grants runtime.old self.old.contexts))
+            (held (over_of M.heap M.grants runtime.new self.new.contexts)
             self.new.calling) }
     {
         self.contexts.settle(identifier, turned);
@@ -156,7 +166,7 @@ impl World<'_> {
                     operator,
                 };
                 self.calling = Some(calling);
-                self.call(calling, deeds, memory, trial, shown)
+                self.call(calling, operators, runtime, attempt, shown)
             }
             _ => Ok(Note::Nothing),
         }
@@ -166,24 +176,23 @@ impl World<'_> {
     fn call<D: Deeds, M: Memory>(
         &mut self,
         calling: Calling,
-        deeds: &mut D,
-        memory: &mut M,
-        trial: Trial,
+        operators: &mut D,
+        runtime: &mut Runtime<M>,
+        attempt: Attempt,
         shown: Option<(i32, i32)>,
     ) -> Result<Note, NotMade>
         requires calling { self.old.calling ≡ Some calling }
         requires steady { IsSteadyHeld
-            (held (over (M.heap memory.old) (M.grants memory.old) self.old.contexts)
+            (held (over_of M.heap M.grants runtime.old self.old.contexts)
             (Some calling)) }
-        ensures { (asks : Status → Around → Scene → Asked) → Steps asks calling.caller trial shown
+        ensures { (asks : Status → Around → Scene → Asked) → Steps asks calling.caller attempt shown
             result
-            (held (over (M.heap memory.old) (M.grants memory.old) self.old.contexts)
+            (held (over_of M.heap M.grants runtime.old self.old.contexts)
             (Some calling))
-            (held (over (M.heap memory.new) (M.grants memory.new) self.new.contexts)
+            (held (over_of M.heap M.grants runtime.new self.new.contexts)
             self.new.calling) }
     {
-        let Calling { caller, operator } = calling;
-        match deeds.call(operator, caller, &mut self.contexts, memory, trial, shown) {
+        match operators.call(calling, &mut self.contexts, runtime, attempt, shown) {
             Ok(note) => {
                 self.calling = None;
                 Ok(note)
@@ -195,33 +204,30 @@ impl World<'_> {
     /// A context tries its `monitor` or `join` again.
     fn retry<D: Deeds, M: Memory>(
         &mut self,
-        deeds: &mut D,
-        memory: &mut M,
+        operators: &mut D,
+        runtime: &mut Runtime<M>,
         identifier: u32,
-        trial: Trial,
+        attempt: Attempt,
         shown: Option<(i32, i32)>,
     ) -> Result<Note, NotMade>
         requires course { CourseAt identifier Course.Again self.old.contexts.table }
         requires calling { self.old.calling ≡ None }
         requires steady { IsSteadyHeld
-            (held (over (M.heap memory.old) (M.grants memory.old) self.old.contexts) None) }
-        ensures { (asks : Status → Around → Scene → Asked) → Steps asks identifier trial shown
+            (held (over_of M.heap M.grants runtime.old self.old.contexts) None) }
+        ensures { (asks : Status → Around → Scene → Asked) → Steps asks identifier attempt shown
             result
-            (held (over (M.heap memory.old) (M.grants memory.old) self.old.contexts) None)
-            (held (over (M.heap memory.new) (M.grants memory.new) self.new.contexts)
+            (held (over_of M.heap M.grants runtime.old self.old.contexts) None)
+            (held (over_of M.heap M.grants runtime.new self.new.contexts)
             self.new.calling) }
     {
         let member = self.contexts.table.get_mut(identifier);
         let operator = retried(&member.context.operands);
         member.course = Course::Running;
-        match deeds.call(
+        let call_again = Calling {
+            caller: identifier,
             operator,
-            identifier,
-            &mut self.contexts,
-            memory,
-            trial,
-            shown,
-        ) {
+        };
+        match operators.call(call_again, &mut self.contexts, runtime, attempt, shown) {
             Ok(note) => Ok(note),
             Err(reason) => {
                 let member = self.contexts.table.get_mut(identifier);

@@ -19,7 +19,7 @@ use Rattle.ps_ops_state.specs.declared.breaks.Break.TheVariants.{Raises, NotMade
 use Rattle.ps_language.specs.Effect.{Scene, Call, Deed, does, makes, wishes, turn_ends, shows_memory}
 use Rattle.ps_language.specs.Value.{Value, Store, lock_object, condition_object}
 use Rattle.ps_ops_state.specs.declared.breaks.Break.{Break}
-use Rattle.ps_ops_state.specs.declared.lent.Trial.{Trial}
+use Rattle.ps_ops_state.specs.declared.lent.Attempt.{Attempt}
 use Rattle.ps_ops_state.specs.Acts.{Acts, nothing_asked, effect_in}
 use Rattle.ps_ops_state.proofs.Meeting.{keeps-same, lacks_for_same, logs-same}
 use Rattle.ps_ops_state.specs.Lent.{Lent, scene_of}
@@ -39,14 +39,14 @@ use Rattle.ps_ctx_operators.specs.Done.{IsLeftAs, outcome_of, noted, DoesBy}
 use Rattle.ps_ctx_operators.proofs.Parts.{IsPlain, IsWithStore, nothing_few, plain_by, part_steady, part_runs, part_framed}
 use Rattle.ps_ctx_operators.proofs.Arms.{does_by, acted, broke_off, broke_off_so, raised_so, held_so}
 
-module _ (caller : ℕ) (trial : Trial) (shown : Option (ℤ × ℤ)) (d : Desk) (steady : IsSteady d)
+module _ (caller : ℕ) (attempt : Attempt) (shown : Option (ℤ × ℤ)) (d : Desk) (steady : IsSteady d)
     (member : Member) (found : item_at d.members caller ≡ Some member)
     (runs : member.course ≡ Running) (new : Lent) (result : Result Unit Break) where
-  pub lock_does : Acts nothing_asked (new_caller (lock_object None)) trial result
+  pub lock_does : Acts nothing_asked (new_caller (lock_object None)) attempt result
       (lent_to d member.context) new
-      → DoesBy Lock caller trial shown (noted Nothing result) d (desk_unmade d caller member new)
+      → DoesBy Lock caller attempt shown (noted Nothing result) d (desk_unmade d caller member new)
   lock_does acts =
-      does_by Lock caller trial shown d steady member found runs nothing_asked nothing_few
+      does_by Lock caller attempt shown d steady member found runs nothing_asked nothing_few
       (new_caller (lock_object None))
       (λ l store. plain_by (scene_of l store) (λ (change : Change). record (scene_of l store)
       { operands = change.operands; store = change.store }) (λ change. refl)
@@ -54,12 +54,12 @@ module _ (caller : ℕ) (trial : Trial) (shown : Option (ℤ × ℤ)) (d : Desk)
       (λ is. cc) (λ is. cc)
       (λ any w context. new_deed (call_by caller any w context) (lock_object None)) new result acts
 
-  pub condition_does : Acts nothing_asked (new_caller condition_object) trial result
+  pub condition_does : Acts nothing_asked (new_caller condition_object) attempt result
       (lent_to d member.context) new
-      → DoesBy Condition caller trial shown (noted Nothing result) d
+      → DoesBy Condition caller attempt shown (noted Nothing result) d
       (desk_unmade d caller member new)
   condition_does acts =
-      does_by Condition caller trial shown d steady member found runs nothing_asked nothing_few
+      does_by Condition caller attempt shown d steady member found runs nothing_asked nothing_few
       (new_caller condition_object)
       (λ l store. plain_by (scene_of l store) (λ (change : Change). record (scene_of l store)
       { operands = change.operands; store = change.store }) (λ change. refl)
@@ -67,12 +67,12 @@ module _ (caller : ℕ) (trial : Trial) (shown : Option (ℤ × ℤ)) (d : Desk)
       (λ is. cc) (λ is. cc)
       (λ any w context. new_deed (call_by caller any w context) condition_object) new result acts
 
-  pub current_does : Acts nothing_asked (currentcontext_caller caller) trial result
+  pub current_does : Acts nothing_asked (currentcontext_caller caller) attempt result
       (lent_to d member.context) new
-      → DoesBy CurrentContext caller trial shown (noted Nothing result) d
+      → DoesBy CurrentContext caller attempt shown (noted Nothing result) d
       (desk_unmade d caller member new)
   current_does acts =
-      does_by CurrentContext caller trial shown d steady member found runs nothing_asked
+      does_by CurrentContext caller attempt shown d steady member found runs nothing_asked
       nothing_few (currentcontext_caller caller)
       (λ l store. plain_by (scene_of l store) (λ (operands : List Value). record (scene_of l store)
       { operands = operands }) (λ operands. refl)
@@ -82,7 +82,7 @@ module _ (caller : ℕ) (trial : Trial) (shown : Option (ℤ × ℤ)) (d : Desk)
 
 -- ---- vmreclaim
 
-module _ (caller : ℕ) (trial : Trial) (shown : Option (ℤ × ℤ)) (d : Desk) (steady : IsSteady d)
+module _ (caller : ℕ) (attempt : Attempt) (shown : Option (ℤ × ℤ)) (d : Desk) (steady : IsSteady d)
     (member : Member) (found : item_at d.members caller ≡ Some member)
     (runs : member.course ≡ Running) (new : Lent) where
   abbrev reclaim_next : Option (ℤ × ℤ) → World → Scene → Outcome Deed
@@ -115,12 +115,12 @@ module _ (caller : ℕ) (trial : Trial) (shown : Option (ℤ × ℤ)) (d : Desk)
       { operands = operands }) (λ operands. refl) (vmreclaim_part (scene_of l store).operands)
 
   pub reclaimed : (number : ℤ)
-      → Acts nothing_asked vmreclaim_caller trial (Ok tt) (lent_to d member.context) new
+      → Acts nothing_asked vmreclaim_caller attempt (Ok tt) (lent_to d member.context) new
       → wished (context_of d.heap d.names member).operands ≡ Some number
-      → DoesBy VmReclaim caller trial shown (Ok (Wishes number)) d
+      → DoesBy VmReclaim caller attempt shown (Ok (Wishes number)) d
       (desk_unmade d caller member new)
   reclaimed number acts wish =
-      acted VmReclaim caller trial shown d steady member found runs nothing_asked nothing_few
+      acted VmReclaim caller attempt shown d steady member found runs nothing_asked nothing_few
       vmreclaim_caller reclaim_plain reclaim_next
       (λ any. Unit {0})
       (λ any w scene says is. reclaim_stores (scene_of (lent_to d member.context) w.store) scene
@@ -137,10 +137,10 @@ module _ (caller : ℕ) (trial : Trial) (shown : Option (ℤ × ℤ)) (d : Desk)
       (desk_unmade d caller member new)) (sym wish) (world, refl))
 
   pub unreclaimed : (why : Break)
-      → Acts nothing_asked vmreclaim_caller trial (Err why) (lent_to d member.context) new
-      → DoesBy VmReclaim caller trial shown (Err why) d (desk_unmade d caller member new)
+      → Acts nothing_asked vmreclaim_caller attempt (Err why) (lent_to d member.context) new
+      → DoesBy VmReclaim caller attempt shown (Err why) d (desk_unmade d caller member new)
   unreclaimed why acts =
-      broke_off VmReclaim caller trial shown d steady member found runs nothing_asked
+      broke_off VmReclaim caller attempt shown d steady member found runs nothing_asked
       nothing_few vmreclaim_caller reclaim_plain reclaim_next
       (λ any. Unit {0})
       (λ any w scene says is. reclaim_stores (scene_of (lent_to d member.context) w.store) scene
@@ -165,7 +165,7 @@ status_full None (Some other) operands = refl
 status_full (Some one) None operands = refl
 status_full (Some one) (Some other) operands = refl
 
-module _ (caller : ℕ) (trial : Trial) (shown : Option (ℤ × ℤ)) (d : Desk) (steady : IsSteady d)
+module _ (caller : ℕ) (attempt : Attempt) (shown : Option (ℤ × ℤ)) (d : Desk) (steady : IsSteady d)
     (member : Member) (found : item_at d.members caller ≡ Some member)
     (runs : member.course ≡ Running) (new : Lent) where
   abbrev status_next : Option (ℤ × ℤ) → World → Scene → Outcome Deed
@@ -192,10 +192,10 @@ module _ (caller : ℕ) (trial : Trial) (shown : Option (ℤ × ℤ)) (d : Desk)
       (vmstatus_part shown (scene_of l store).operands)
 
   pub status_done : new.heap ≡ d.heap
-      → Acts nothing_asked (vmstatus_caller shown) trial (Ok tt) (lent_to d member.context) new
-      → DoesBy VmStatus caller trial shown (Ok ShowsMemory) d (desk_unmade d caller member new)
+      → Acts nothing_asked (vmstatus_caller shown) attempt (Ok tt) (lent_to d member.context) new
+      → DoesBy VmStatus caller attempt shown (Ok ShowsMemory) d (desk_unmade d caller member new)
   status_done same acts =
-      acted VmStatus caller trial shown d steady member found runs nothing_asked nothing_few
+      acted VmStatus caller attempt shown d steady member found runs nothing_asked nothing_few
       (vmstatus_caller shown) status_plain status_next (λ any. any ≡ shown)
       (λ any w scene says is. refl) status_law new refl ShowsMemory
       (λ is. same) acts (desk_unmade d caller member new).members
@@ -221,9 +221,9 @@ module _ (caller : ℕ) (trial : Trial) (shown : Option (ℤ × ℤ)) (d : Desk)
       (lacks_for_same refused w.store)) ∙ is in absurd (cc)
 
   status_errs : (error : ErrorName)
-      → Acts nothing_asked (vmstatus_caller shown) trial (Err (Raises error))
+      → Acts nothing_asked (vmstatus_caller shown) attempt (Err (Raises error))
       (lent_to d member.context) new → (w : World) → IsWorld d w → (any : Option (ℤ × ℤ))
-      → outcome_of VmStatus caller trial.refused w (context_of d.heap d.names member) any
+      → outcome_of VmStatus caller attempt.refused w (context_of d.heap d.names member) any
       ≡ fails error
   status_errs error acts w at any =
       let here = context_of d.heap d.names member in
@@ -232,18 +232,18 @@ module _ (caller : ℕ) (trial : Trial) (shown : Option (ℤ × ℤ)) (d : Desk)
     where
       full_to : (full : Bool)
           → room_for (memory_shown shown ++ (context_of d.heap d.names member).operands) ≡ full
-          → outcome_of VmStatus caller trial.refused w (context_of d.heap d.names member) any
+          → outcome_of VmStatus caller attempt.refused w (context_of d.heap d.names member) any
           ≡ fails error
       full_to full same =
           let here = context_of d.heap d.names member in
-          let one = subst (λ (b : Bool). deed_given_room trial.refused w
+          let one = subst (λ (b : Bool). deed_given_room attempt.refused w
           (doing_operands shows_memory (call_by caller shown w here)
           (given_that b StackOverflow (leaves (memory_shown shown ++ here.operands))))
           ≡ fails error) (status_full shown any here.operands)
-          (raised_so VmStatus caller trial shown d steady member found runs nothing_asked
+          (raised_so VmStatus caller attempt shown d steady member found runs nothing_asked
           nothing_few (vmstatus_caller shown) status_plain status_next (λ any. any ≡ shown)
           (λ any w scene says is. refl) status_law new error acts w at shown refl).0 in
-          full_errs error trial.refused w here any
+          full_errs error attempt.refused w here any
           (room_for (memory_shown any ++ here.operands)) one
 
   left_store : (before scene : Scene) (outcome : Outcome (List Value))
@@ -255,12 +255,12 @@ module _ (caller : ℕ) (trial : Trial) (shown : Option (ℤ × ℤ)) (d : Desk)
 
   -- it wants no growth
   status_held : (reason : Reason)
-      → Acts nothing_asked (vmstatus_caller shown) trial (Err (NotMade reason))
+      → Acts nothing_asked (vmstatus_caller shown) attempt (Err (NotMade reason))
       (lent_to d member.context) new → (w : World) → IsWorld d w
-      → IsHeldUpAs (call_wants (calling_of VmStatus) caller trial.refused w
-      (context_of d.heap d.names member)) trial.slot new.heap new.grants reason
+      → IsHeldUpAs (call_wants (calling_of VmStatus) caller attempt.refused w
+      (context_of d.heap d.names member)) attempt.slot new.heap new.grants reason
   status_held reason acts w at =
-      held_so VmStatus caller trial shown d steady member found runs nothing_asked nothing_few
+      held_so VmStatus caller attempt shown d steady member found runs nothing_asked nothing_few
       (vmstatus_caller shown) status_plain status_next (λ any. any ≡ shown)
       (λ any w scene says is. refl) status_law new reason acts w at _
       (λ scene is enough some.
@@ -269,10 +269,10 @@ module _ (caller : ℕ) (trial : Trial) (shown : Option (ℤ × ℤ)) (d : Desk)
       ap (made_between w.store) same ∙ made-same w.store in absurd (omega (arith, none, some)))
 
   pub status_undone : (why : Break) → ((reason : Reason) → why ≢ NotMade reason)
-      → Acts nothing_asked (vmstatus_caller shown) trial (Err why) (lent_to d member.context) new
-      → DoesBy VmStatus caller trial shown (Err why) d (desk_unmade d caller member new)
+      → Acts nothing_asked (vmstatus_caller shown) attempt (Err why) (lent_to d member.context) new
+      → DoesBy VmStatus caller attempt shown (Err why) d (desk_unmade d caller member new)
   status_undone why made acts =
-      broke_off_so VmStatus caller trial shown d steady member found runs nothing_asked
+      broke_off_so VmStatus caller attempt shown d steady member found runs nothing_asked
       nothing_few (vmstatus_caller shown) status_plain status_next (λ any. any ≡ shown)
       (λ any w scene says is. refl) status_law new refl status_errs status_held why
       (λ is. made) acts
@@ -280,13 +280,13 @@ module _ (caller : ℕ) (trial : Trial) (shown : Option (ℤ × ℤ)) (d : Desk)
 -- ---- yield
 
 -- it does nothing, and the turn ends
-pub yields : (caller : ℕ) (trial : Trial) (shown : Option (ℤ × ℤ)) (d : Desk) → IsSteady d
-    → RunsAt caller d.members → DoesBy Yield caller trial shown (Ok TurnEnds) d d
-yields caller trial shown d steady runs = record {
+pub yields : (caller : ℕ) (attempt : Attempt) (shown : Option (ℤ × ℤ)) (d : Desk) → IsSteady d
+    → RunsAt caller d.members → DoesBy Yield caller attempt shown (Ok TurnEnds) d d
+yields caller attempt shown d steady runs = record {
   meets = λ w context at there.
       subst (λ (b : Bool). IsLeftAs TurnEnds
       (given_that (not b) VmError (leaves (does turn_ends w))) d)
-      (sym (lacks_for_same trial.refused w.store)) (at, refl);
+      (sym (lacks_for_same attempt.refused w.store)) (at, refl);
   steady = steady;
   runs = runs;
   keeps = keeps-same d.heap;
@@ -295,7 +295,7 @@ yields caller trial shown d steady runs = record {
   framed = λ framed. framed;
   same = λ w at. tt;
   held_up = λ reason bad. absurd (cc);
-  logs = logs-same 5 d.grants trial.slot;
+  logs = logs-same 5 d.grants attempt.slot;
   made = λ is reason bad. absurd (cc);
   leaves = λ is. absurd (cc);
 }

@@ -18,7 +18,7 @@ use Rattle.ps_ops_operands.specs.declared.failure.NotMade.{NotMade as Reason}
 use Rattle.ps_ops_control.specs.declared.frames.Cause.{Cause}
 use Rattle.ps_ops_state.specs.declared.breaks.Break.{Break}
 use Rattle.ps_ops_state.specs.declared.breaks.Break.TheVariants.{Unwinds, Raises, NotMade}
-use Rattle.ps_ops_state.specs.declared.lent.Trial.{Trial}
+use Rattle.ps_ops_state.specs.declared.lent.Attempt.{Attempt}
 use Rattle.ps_ops_state.specs.Acts.{Asked, IsSame, needs_as, lacks, Acts, ActsAs, effect_in}
 use Rattle.ps_ops_state.specs.Lent.{Lent, scene_of, IsShown}
 use Rattle.ps_step_outcome.specs.Turns.{calling_of}
@@ -64,7 +64,7 @@ room_for_it refused w scene (leaves waits) same enough = absurd same
 room_for_it refused w scene (fails error) same enough = absurd same
 
 -- The row of the caller's part, and what is done once that is left; by what is shown
-module _ (operator : Operator) (caller : ℕ) (trial : Trial) (shown : Option (ℤ × ℤ)) (d : Desk)
+module _ (operator : Operator) (caller : ℕ) (attempt : Attempt) (shown : Option (ℤ × ℤ)) (d : Desk)
     (steady : IsSteady d) (member : Member) (found : item_at d.members caller ≡ Some member)
     (runs : member.course ≡ Running) (asks : Scene → Asked)
     (few : (scene : Scene) → IsFew (asks scene)) (row : Row)
@@ -82,7 +82,7 @@ module _ (operator : Operator) (caller : ℕ) (trial : Trial) (shown : Option (�
   here = context_of d.heap d.names member
 
   module _ (result : Result Unit Break)
-      (acts : Acts asks row trial result (lent_to d member.context) new) (w : World)
+      (acts : Acts asks row attempt result (lent_to d member.context) new) (w : World)
       (at : IsWorld d w) where
     abbrev before : Scene
     before = scene_of (lent_to d member.context) w.store
@@ -91,27 +91,27 @@ module _ (operator : Operator) (caller : ℕ) (trial : Trial) (shown : Option (�
     effect = effect_in row (lent_to d member.context) w.store
 
     abbrev outcome : Option (ℤ × ℤ) → Outcome Deed
-    outcome = outcome_of operator caller trial.refused w here
+    outcome = outcome_of operator caller attempt.refused w here
 
-    did : ActsAs (needs_as (asks before) before effect (lacks trial.refused before effect))
-        trial.slot before result effect (lacks trial.refused before effect)
+    did : ActsAs (needs_as (asks before) before effect (lacks attempt.refused before effect))
+        attempt.slot before result effect (lacks attempt.refused before effect)
         (lent_to d member.context) new
     did = (acts.meets w.store (member_at (λ one. IsShown (lent_to d one.context) w.store) d.members
         caller member at.members found)).did
 
     outcome_by : (any : Option (ℤ × ℤ)) → Says any → outcome any
-        ≡ deed_given_room trial.refused w (after_part effect (next any w))
+        ≡ deed_given_room attempt.refused w (after_part effect (next any w))
     outcome_by any says =
-        ap (deed_given_room trial.refused w) (law any w says at
+        ap (deed_given_room attempt.refused w) (law any w says at
         ∙ ap (λ e. after_part e (next any w)) (sym (part_is d caller member found runs new
         steady acts.keeps acts.stays acts.good w at any row)))
 
     outcome_is : (any : Option (ℤ × ℤ)) (scene : Scene) → Says any → effect ≡ makes scene []
-        → lacks_room trial.refused w.store scene.store ≡ false → outcome any ≡ next any w scene
+        → lacks_room attempt.refused w.store scene.store ≡ false → outcome any ≡ next any w scene
     outcome_is any scene says is enough =
         outcome_by any says
-        ∙ (ap (λ e. deed_given_room trial.refused w (after_part e (next any w))) is
-        ∙ room_for_it trial.refused w scene (next any w scene) (stores any w scene says is) enough)
+        ∙ (ap (λ e. deed_given_room attempt.refused w (after_part e (next any w))) is
+        ∙ room_for_it attempt.refused w scene (next any w scene) (stores any w scene says is) enough)
 
   here_is : (w : World) (context : Context) → IsWorld d w → context_at w caller ≡ Some context
       → here ≡ context
@@ -122,54 +122,54 @@ module _ (operator : Operator) (caller : ℕ) (trial : Trial) (shown : Option (�
   -- ---- it broke off
 
   pub raised_so : (error : ErrorName)
-      → Acts asks row trial (Err (Raises error)) (lent_to d member.context) new → (w : World)
+      → Acts asks row attempt (Err (Raises error)) (lent_to d member.context) new → (w : World)
       → IsWorld d w → (any : Option (ℤ × ℤ)) → Says any
-      → (outcome_of operator caller trial.refused w here any ≡ fails error)
+      → (outcome_of operator caller attempt.refused w here any ≡ fails error)
       × IsSame (lent_to d member.context) new
   raised_so error acts w at any says =
       let why = Err (Raises error) in
       let by = raised_by d caller member found runs new steady acts.keeps acts.stays acts.good w at
-      any trial (asks (before why acts w at)) (few _) error (effect why acts w at)
-      (lacks trial.refused (before why acts w at) (effect why acts w at)) refl
+      any attempt (asks (before why acts w at)) (few _) error (effect why acts w at)
+      (lacks attempt.refused (before why acts w at) (effect why acts w at)) refl
       (plain (lent_to d member.context) w.store) (next any w)
       (λ scene is. stores any w scene says is) (did why acts w at) in
       (outcome_by why acts w at any says ∙ by.0, by.1)
 
   pub held_so : (reason : Reason)
-      → Acts asks row trial (Err (NotMade reason)) (lent_to d member.context) new → (w : World)
+      → Acts asks row attempt (Err (NotMade reason)) (lent_to d member.context) new → (w : World)
       → IsWorld d w → (wanted : Growth) → ((scene : Scene)
       → effect_in row (lent_to d member.context) w.store ≡ makes scene []
-      → lacks_room trial.refused w.store scene.store ≡ false
+      → lacks_room attempt.refused w.store scene.store ≡ false
       → 1 ≤ made_between w.store scene.store → IsAsked wanted w.store scene.store)
-      → IsHeldUpAs wanted trial.slot new.heap new.grants reason
+      → IsHeldUpAs wanted attempt.slot new.heap new.grants reason
   held_so reason acts w at =
       let why = Err (NotMade reason) in
       held_up_by d caller member found runs new steady acts.keeps acts.stays acts.good w at None
-      trial (asks (before why acts w at)) (few _) reason (effect why acts w at)
-      (lacks trial.refused (before why acts w at) (effect why acts w at)) refl
+      attempt (asks (before why acts w at)) (few _) reason (effect why acts w at)
+      (lacks attempt.refused (before why acts w at) (effect why acts w at)) refl
       (plain (lent_to d member.context) w.store) (did why acts w at) acts.logs.closed
 
   unmade_so : (reason : Reason)
-      → Acts asks row trial (Err (NotMade reason)) (lent_to d member.context) new → (w : World)
+      → Acts asks row attempt (Err (NotMade reason)) (lent_to d member.context) new → (w : World)
       → IsWorld d w → IsSame (lent_to d member.context) new
   unmade_so reason acts w at =
       let why = Err (NotMade reason) in
       unmade_by d caller member found runs new steady acts.keeps acts.stays acts.good w at shown
-      trial (asks (before why acts w at)) (few _) reason (effect why acts w at)
-      (lacks trial.refused (before why acts w at) (effect why acts w at))
+      attempt (asks (before why acts w at)) (few _) reason (effect why acts w at)
+      (lacks attempt.refused (before why acts w at) (effect why acts w at))
       (plain (lent_to d member.context) w.store) (did why acts w at)
 
   unwound_not : (cause : Cause)
-      → Acts asks row trial (Err (Unwinds cause)) (lent_to d member.context) new → (w : World)
+      → Acts asks row attempt (Err (Unwinds cause)) (lent_to d member.context) new → (w : World)
       → IsWorld d w → ⊥
   unwound_not cause acts w at =
       let why = Err (Unwinds cause) in
       unwinds_not d caller member found runs new steady acts.keeps acts.stays acts.good w at shown
-      trial (asks (before why acts w at)) (few _) cause (effect why acts w at)
-      (lacks trial.refused (before why acts w at) (effect why acts w at))
+      attempt (asks (before why acts w at)) (few _) cause (effect why acts w at)
+      (lacks attempt.refused (before why acts w at) (effect why acts w at))
       (plain (lent_to d member.context) w.store) (did why acts w at)
 
-  same_so : (why : Break) → Acts asks row trial (Err why) (lent_to d member.context) new
+  same_so : (why : Break) → Acts asks row attempt (Err why) (lent_to d member.context) new
       → Says shown → (w : World) → IsWorld d w → IsSame (lent_to d member.context) new
   same_so (Raises error) acts says w at = (raised_so error acts w at shown says).1
   same_so (NotMade reason) acts says w at = unmade_so reason acts w at
@@ -178,16 +178,16 @@ module _ (operator : Operator) (caller : ℕ) (trial : Trial) (shown : Option (�
   -- where the error is the same whatever is shown, and it may want a growth so too
   module _ (says : Says shown)
       (errs : (error : ErrorName)
-      → Acts asks row trial (Err (Raises error)) (lent_to d member.context) new → (w : World)
+      → Acts asks row attempt (Err (Raises error)) (lent_to d member.context) new → (w : World)
       → IsWorld d w → (any : Option (ℤ × ℤ))
-      → outcome_of operator caller trial.refused w here any ≡ fails error)
+      → outcome_of operator caller attempt.refused w here any ≡ fails error)
       (held : (reason : Reason)
-      → Acts asks row trial (Err (NotMade reason)) (lent_to d member.context) new → (w : World)
-      → IsWorld d w → IsHeldUpAs (call_wants (calling_of operator) caller trial.refused w here)
-      trial.slot new.heap new.grants reason) where
-    comes_so : (why : Break) → Acts asks row trial (Err why) (lent_to d member.context) new
+      → Acts asks row attempt (Err (NotMade reason)) (lent_to d member.context) new → (w : World)
+      → IsWorld d w → IsHeldUpAs (call_wants (calling_of operator) caller attempt.refused w here)
+      attempt.slot new.heap new.grants reason) where
+    comes_so : (why : Break) → Acts asks row attempt (Err why) (lent_to d member.context) new
         → (w : World) → IsWorld d w
-        → ComesTo (Err why) shown (outcome_of operator caller trial.refused w here) w
+        → ComesTo (Err why) shown (outcome_of operator caller attempt.refused w here) w
         (desk_unmade d caller member new)
     comes_so (Raises error) acts w at = (
       errs error acts w at,
@@ -199,12 +199,12 @@ module _ (operator : Operator) (caller : ℕ) (trial : Trial) (shown : Option (�
 
     pub broke_off_so : (why : Break)
         → (operator ≡ VmStatus → (reason : Reason) → why ≢ NotMade reason)
-        → Acts asks row trial (Err why) (lent_to d member.context) new
-        → DoesBy operator caller trial shown (Err why) d (desk_unmade d caller member new)
+        → Acts asks row attempt (Err why) (lent_to d member.context) new
+        → DoesBy operator caller attempt shown (Err why) d (desk_unmade d caller member new)
     broke_off_so why made acts = record {
       meets = λ w context at there.
           subst (λ (one : Context). ComesTo (Err why) shown
-          (outcome_of operator caller trial.refused w one) w (desk_unmade d caller member new))
+          (outcome_of operator caller attempt.refused w one) w (desk_unmade d caller member new))
           (here_is w context at there) (comes_so why acts w at);
       steady = part_steady d caller member found runs new steady acts.keeps acts.stays acts.good;
       runs = part_runs d caller member found runs new;
@@ -216,9 +216,9 @@ module _ (operator : Operator) (caller : ℕ) (trial : Trial) (shown : Option (�
       held_up = λ reason is w context at there.
           let same : why ≡ NotMade reason = cc in
           subst (λ (one : Context). IsHeldUpAs
-          (call_wants (calling_of operator) caller trial.refused w one) trial.slot new.heap
+          (call_wants (calling_of operator) caller attempt.refused w one) attempt.slot new.heap
           new.grants reason) (here_is w context at there) (held reason
-          (subst (λ r. Acts asks row trial (Err r) (lent_to d member.context) new) same acts)
+          (subst (λ r. Acts asks row attempt (Err r) (lent_to d member.context) new) same acts)
           w at);
       logs = acts.logs;
       made = λ is reason bad. made is reason (cc);
@@ -228,12 +228,12 @@ module _ (operator : Operator) (caller : ℕ) (trial : Trial) (shown : Option (�
   -- whatever is shown
   pub broke_off : ((any : Option (ℤ × ℤ)) → Says any) → (why : Break)
       → (operator ≡ VmStatus → (reason : Reason) → why ≢ NotMade reason)
-      → Acts asks row trial (Err why) (lent_to d member.context) new
-      → DoesBy operator caller trial shown (Err why) d (desk_unmade d caller member new)
+      → Acts asks row attempt (Err why) (lent_to d member.context) new
+      → DoesBy operator caller attempt shown (Err why) d (desk_unmade d caller member new)
   broke_off all =
       broke_off_so (all shown) (λ error acts w at any. (raised_so error acts w at any (all any)).0)
       (λ reason acts w at. held_so reason acts w at
-      (call_wants (calling_of operator) caller trial.refused w here)
+      (call_wants (calling_of operator) caller attempt.refused w here)
       (λ scene is enough some. subst (λ (outcome : Outcome Deed).
       IsAsked (deed_wants (calling_of operator) w here outcome) w.store scene.store)
       (sym (outcome_is (Err (NotMade reason)) acts w at None scene (all None) is enough))
@@ -243,7 +243,7 @@ module _ (operator : Operator) (caller : ℕ) (trial : Trial) (shown : Option (�
   -- ---- it acted, and others were changed so that the rest of the desk is the same
 
   pub acted : Says shown → (note : Note) (kept : note ≡ ShowsMemory → new.heap ≡ d.heap)
-      (acts : Acts asks row trial (Ok tt) (lent_to d member.context) new)
+      (acts : Acts asks row attempt (Ok tt) (lent_to d member.context) new)
       (members : List (Option Member))
       → IsSteady (record (desk_unmade d caller member new) { members = members })
       → RunsAt caller members → (AreFramedBut caller d.members → AreFramedBut caller members)
@@ -253,17 +253,17 @@ module _ (operator : Operator) (caller : ℕ) (trial : Trial) (shown : Option (�
       (with_scene_of (call_by caller shown w here) scene)
       → IsLeftAs note (next shown w scene)
       (record (desk_unmade d caller member new) { members = members }))
-      → DoesBy operator caller trial shown (Ok note) d
+      → DoesBy operator caller attempt shown (Ok note) d
       (record (desk_unmade d caller member new) { members = members })
   acted says note kept acts members steady_then runs_then framed_then left = record {
     meets = λ w context at there.
         let why = Ok tt in
         let made = made_by d caller member found runs new steady acts.keeps acts.stays acts.good w
-        at shown trial (asks (before why acts w at)) (few _) (effect why acts w at)
-        (lacks trial.refused (before why acts w at) (effect why acts w at)) refl
+        at shown attempt (asks (before why acts w at)) (few _) (effect why acts w at)
+        (lacks attempt.refused (before why acts w at) (effect why acts w at)) refl
         (plain (lent_to d member.context) w.store) (did why acts w at) in
         subst (λ (one : Context). IsLeftAs note
-        (outcome_of operator caller trial.refused w one shown)
+        (outcome_of operator caller attempt.refused w one shown)
         (record (desk_unmade d caller member new) { members = members }))
         (here_is w context at there)
         (subst (λ (o : Outcome Deed). IsLeftAs note o
@@ -285,7 +285,7 @@ module _ (operator : Operator) (caller : ℕ) (trial : Trial) (shown : Option (�
 
 -- ---- it changes its caller alone
 
-module _ (operator : Operator) (caller : ℕ) (trial : Trial) (shown : Option (ℤ × ℤ)) (d : Desk)
+module _ (operator : Operator) (caller : ℕ) (attempt : Attempt) (shown : Option (ℤ × ℤ)) (d : Desk)
     (steady : IsSteady d) (member : Member) (found : item_at d.members caller ≡ Some member)
     (runs : member.course ≡ Running) (asks : Scene → Asked)
     (few : (scene : Scene) → IsFew (asks scene)) (row : Row)
@@ -300,10 +300,10 @@ module _ (operator : Operator) (caller : ℕ) (trial : Trial) (shown : Option (�
       (with_scene_of (call_by caller any w (context_of d.heap d.names member)) scene))
 
   pub does_by : (result : Result Unit Break)
-      → Acts asks row trial result (lent_to d member.context) new
-      → DoesBy operator caller trial shown (noted note result) d (desk_unmade d caller member new)
+      → Acts asks row attempt result (lent_to d member.context) new
+      → DoesBy operator caller attempt shown (noted note result) d (desk_unmade d caller member new)
   does_by (Ok tt) acts =
-      acted operator caller trial shown d steady member found runs asks few row plain alone_next
+      acted operator caller attempt shown d steady member found runs asks few row plain alone_next
       (λ any. Unit {0}) (λ any w scene says is. refl)
       (λ any w says at. law any w (context_of d.heap d.names member)) new tt note
       (λ is. absurd (unshown is)) acts (desk_unmade d caller member new).members
@@ -311,7 +311,7 @@ module _ (operator : Operator) (caller : ℕ) (trial : Trial) (shown : Option (�
       (part_runs d caller member found runs new) (part_framed d caller member found runs new)
       (λ w scene at is world. (world, refl))
   does_by (Err why) acts =
-      broke_off operator caller trial shown d steady member found runs asks few row plain alone_next
+      broke_off operator caller attempt shown d steady member found runs asks few row plain alone_next
       (λ any. Unit {0}) (λ any w scene says is. refl)
       (λ any w says at. law any w (context_of d.heap d.names member)) new (λ any. tt) why
       (λ is. absurd (other is)) acts

@@ -12,7 +12,7 @@ use Rattle.ps_language.specs.Value.{Value, Store}
 use Rattle.ps_language.specs.World.{Context, World}
 use Rattle.ps_ops_state.specs.declared.breaks.Break.{Break}
 use Rattle.ps_ops_state.specs.declared.breaks.Break.TheVariants.{Raises}
-use Rattle.ps_ops_state.specs.declared.lent.Trial.{Trial}
+use Rattle.ps_ops_state.specs.declared.lent.Attempt.{Attempt}
 use Rattle.ps_ops_state.specs.Acts.{Acts, nothing_asked, effect_in}
 use Rattle.ps_ops_state.specs.Lent.{Lent, scene_of, IsShown}
 use Rattle.ps_ctx_table.specs.declared.members.Course.{Course}
@@ -154,7 +154,7 @@ module _ (d : Desk) (identifier : ℕ) (other : Member)
 
 -- ---- detach
 
-module _ (caller : ℕ) (trial : Trial) (shown : Option (ℤ × ℤ)) (d : Desk) (steady : IsSteady d)
+module _ (caller : ℕ) (attempt : Attempt) (shown : Option (ℤ × ℤ)) (d : Desk) (steady : IsSteady d)
     (member : Member) (found : item_at d.members caller ≡ Some member)
     (runs : member.course ≡ Running) (new : Lent) (identifier : ℕ)
     (named : Names caller (Ok identifier) d.members) where
@@ -187,17 +187,17 @@ module _ (caller : ℕ) (trial : Trial) (shown : Option (ℤ × ℤ)) (d : Desk)
   abbrev part : Desk
   part = desk_unmade d caller member new
 
-  pub detached_done : Acts nothing_asked detach_caller trial (Ok tt) (lent_to d member.context) new
+  pub detached_done : Acts nothing_asked detach_caller attempt (Ok tt) (lent_to d member.context) new
       → IsSome (item_at part.members identifier)
-      → DoesBy Detach caller trial shown (Ok Nothing) d
+      → DoesBy Detach caller attempt shown (Ok Nothing) d
       (record part { members = detached_members identifier part.members })
   detached_done acts some =
       let now_steady =
       part_steady d caller member found runs new steady acts.keeps acts.stays acts.good in
       let now_runs = part_runs d caller member found runs new in
-      detached_in (λ members. DoesBy Detach caller trial shown (Ok Nothing) d
+      detached_in (λ members. DoesBy Detach caller attempt shown (Ok Nothing) d
       (record part { members = members })) part.members identifier some λ other there.
-      acted Detach caller trial shown d steady member found runs nothing_asked nothing_few
+      acted Detach caller attempt shown d steady member found runs nothing_asked nothing_few
       detach_caller detach_plain detach_next (λ any. Unit {0})
       (λ any w scene says is. detach_stores any w scene)
       (λ any w says at. detach_named (call_by caller any w here_now)
@@ -215,10 +215,10 @@ module _ (caller : ℕ) (trial : Trial) (shown : Option (ℤ × ℤ)) (d : Desk)
       ))
 
   pub undetached : (why : Break)
-      → Acts nothing_asked detach_caller trial (Err why) (lent_to d member.context) new
-      → DoesBy Detach caller trial shown (Err why) d part
+      → Acts nothing_asked detach_caller attempt (Err why) (lent_to d member.context) new
+      → DoesBy Detach caller attempt shown (Err why) d part
   undetached why acts =
-      broke_off Detach caller trial shown d steady member found runs nothing_asked nothing_few
+      broke_off Detach caller attempt shown d steady member found runs nothing_asked nothing_few
       detach_caller detach_plain detach_next (λ any. Unit {0})
       (λ any w scene says is. detach_stores any w scene)
       (λ any w says at. detach_named (call_by caller any w here_now)
@@ -227,11 +227,11 @@ module _ (caller : ℕ) (trial : Trial) (shown : Option (ℤ × ℤ)) (d : Desk)
 
 -- ---- nothing is named
 
-pub unnamed_done : (caller : ℕ) (trial : Trial) (shown : Option (ℤ × ℤ)) (d : Desk) → IsSteady d
+pub unnamed_done : (caller : ℕ) (attempt : Attempt) (shown : Option (ℤ × ℤ)) (d : Desk) → IsSteady d
     → RunsAt caller d.members → (error : ErrorName) → Names caller (Err error) d.members
-    → DoesBy Detach caller trial shown (Err (Raises error)) d d
-unnamed_done caller trial shown d steady runs error named =
-    raised_there Detach caller trial shown d error steady runs λ w context at there any.
+    → DoesBy Detach caller attempt shown (Err (Raises error)) d d
+unnamed_done caller attempt shown d steady runs error named =
+    raised_there Detach caller attempt shown d error steady runs λ w context at there any.
     subst (λ (one : Context). detach_row one.operands (call_by caller any w one) ≡ fails error)
     (here_is d w at caller named.member named.found context there)
     (detach_named (call_by caller any w (context_of d.heap d.names named.member)) (fails error)

@@ -20,7 +20,7 @@ use Rattle.ps_ops_control.specs.declared.frames.Frame.{Frame}
 use Rattle.ps_ops_state.specs.declared.breaks.Break.TheVariants.{Unwinds, Raises, NotMade}
 use Rattle.ps_ops_control.specs.declared.frames.Cause.{Cause}
 use Rattle.ps_ops_state.specs.declared.lent.Shared.{Shared}
-use Rattle.ps_ops_state.specs.declared.lent.Trial.{Trial}
+use Rattle.ps_ops_state.specs.declared.lent.Attempt.{Attempt}
 use Rattle.ps_ops_state.specs.Acts.{no_rooms}
 use Rattle.ps_ops_state.specs.Lent.{Lent, scene_of, IsShown}
 use Rattle.ps_ops_state.proofs.Meeting.{logs-same, logs_then}
@@ -103,15 +103,15 @@ runs_by members caller member found at =
 
 -- the desk where it settled
 pub settled_desk_is : (h : Heap) (grants : Grants) (members after : List (Option Member))
-    (caller : ℕ) (member : Member) (shared later : Shared) (had faulted : Bool)
+    (caller : ℕ) (member : Member) (shared : Shared) (had faulted : Bool)
     → item_at members caller ≡ Some member → after ≡ turned_members Goes caller members
-    → later ≡ shared → faulted ≡ (had || false)
-    → desk h grants after later faulted
+    → faulted ≡ (had || false)
+    → desk h grants after shared faulted
     ≡ changed_desk (desk h grants members shared had) caller (turned_member Goes member)
-settled_desk_is h grants members after caller member shared later had faulted found is same told =
+settled_desk_is h grants members after caller member shared had faulted found is told =
     let table = is ∙ turned_there Goes caller members member found in
     let line = told ∙ or_false had in
-    λ i. desk h grants (table i) (same i) (line i)
+    λ i. desk h grants (table i) shared (line i)
 
 -- an error leaves nothing to the world
 own_reached : (turned : Turned) (machine next : Machine) → reaches machine ≡ reached_by turned next
@@ -121,7 +121,7 @@ own_reached (TurnedCalls operator) machine next is = cc
 own_reached (Breaks cause) machine next is = tt
 own_reached (Ends told) machine next is = tt
 
-module _ (operator : Operator) (caller : ℕ) (trial : Trial) (shown : Option (ℤ × ℤ))
+module _ (operator : Operator) (caller : ℕ) (attempt : Attempt) (shown : Option (ℤ × ℤ))
     (old d : Desk) (member : Member) (found : item_at d.members caller ≡ Some member)
     (runs : member.course ≡ Running) (steady : IsSteady d) where
   -- ---- it settles
@@ -142,11 +142,11 @@ module _ (operator : Operator) (caller : ℕ) (trial : Trial) (shown : Option (�
       changed_steady d caller (turned_member Goes member) steady
       (record { good = good.good; course = held_after d.heap member.context.frames })
 
-  pub ended : (note : Note) → DoesBy operator caller trial shown (Ok note) old d
-      → Calls operator caller trial shown (Ok note) old settled_desk
+  pub ended : (note : Note) → DoesBy operator caller attempt shown (Ok note) old d
+      → Calls operator caller attempt shown (Ok note) old settled_desk
   ended note done = record {
     meets = λ w context at there.
-        ends_as note w (outcome_of operator caller trial.refused w context shown)
+        ends_as note w (outcome_of operator caller attempt.refused w context shown)
         (done.meets w context at there);
     steady = settled_steady;
     keeps = done.keeps;
@@ -165,8 +165,8 @@ module _ (operator : Operator) (caller : ℕ) (trial : Trial) (shown : Option (�
 
   -- no operator begins an unwinding
   pub unwound : (cause : Cause)
-      → DoesBy operator caller trial shown (Err (Unwinds cause)) old d
-      → Calls operator caller trial shown (Ok Nothing) old settled_desk
+      → DoesBy operator caller attempt shown (Err (Unwinds cause)) old d
+      → Calls operator caller attempt shown (Ok Nothing) old settled_desk
   unwound cause done = record {
     meets = λ w context at there. absurd (done.meets w context at there);
     steady = settled_steady;
@@ -178,16 +178,16 @@ module _ (operator : Operator) (caller : ℕ) (trial : Trial) (shown : Option (�
     unmade = tt;
     same = λ w at. tt;
     held_up = λ reason bad. absurd (cc);
-    logs = logs_then 0 5 5 old.grants d.grants d.grants trial.slot (omega arith) done.logs
-        (logs-same 5 d.grants trial.slot);
+    logs = logs_then 0 5 5 old.grants d.grants d.grants attempt.slot (omega arith) done.logs
+        (logs-same 5 d.grants attempt.slot);
     no_status = λ w context at there. tt;
     leaves = λ is. absurd (cc);
   }
 
   -- ---- it was not made
 
-  pub unended : (reason : Reason) → DoesBy operator caller trial shown (Err (NotMade reason)) old d
-      → Calls operator caller trial shown (Err reason) old d
+  pub unended : (reason : Reason) → DoesBy operator caller attempt shown (Err (NotMade reason)) old d
+      → Calls operator caller attempt shown (Err reason) old d
   unended reason done = record {
     meets = done.meets;
     steady = done.steady;
@@ -209,19 +209,19 @@ module _ (operator : Operator) (caller : ℕ) (trial : Trial) (shown : Option (�
   -- ---- its error is noted, or is not
 
   module _ (error : ErrorName) (new : Lent)
-      (done : DoesBy operator caller trial shown (Err (Raises error)) old d) where
+      (done : DoesBy operator caller attempt shown (Err (Raises error)) old d) where
     abbrev turn : Lent → Store → Turn
     turn = operator_error operator error
 
     module _ (turned : Turned)
-        (made : Turns nothing_more turn trial (Ok turned) (lent_to d member.context) new) where
+        (made : Turns nothing_more turn attempt (Ok turned) (lent_to d member.context) new) where
       abbrev pub raised_desk : Desk
       raised_desk = desk_turned d caller member new (own_of turned)
 
       own_is : (w : World) → IsWorld d w → own_of turned ≡ turned
       own_is w at =
           own_same turned (own_reached turned _ _
-          (turned_reaches d steady caller member found nothing_more turn trial new turned made w at))
+          (turned_reaches d steady caller member found nothing_more turn attempt new turned made w at))
 
       raised_world : (w : World) → IsWorld d w → IsWorld raised_desk
           (lifted caller (λ machine. settled (failed error (command_of operator) machine)) w)
@@ -229,10 +229,10 @@ module _ (operator : Operator) (caller : ℕ) (trial : Trial) (shown : Option (�
           subst (λ (t : Turned). IsWorld (desk_turned d caller member new t)
           (lifted caller (λ machine. settled (failed error (command_of operator) machine)) w))
           (sym (own_is w at))
-          (failed_world d w at caller member found runs steady nothing_more operator error trial new
+          (failed_world d w at caller member found runs steady nothing_more operator error attempt new
           turned made)
 
-      pub raised : Calls operator caller trial shown (Ok Nothing) old raised_desk
+      pub raised : Calls operator caller attempt shown (Ok Nothing) old raised_desk
       raised = record {
         meets = λ w context at there.
             let to = done.meets w context at there in
@@ -254,19 +254,19 @@ module _ (operator : Operator) (caller : ℕ) (trial : Trial) (shown : Option (�
         unmade = tt;
         same = λ w at. tt;
         held_up = λ reason bad. absurd (cc);
-        logs = logs_then 0 5 5 old.grants d.grants new.grants trial.slot (omega arith) done.logs
+        logs = logs_then 0 5 5 old.grants d.grants new.grants attempt.slot (omega arith) done.logs
             made.logs;
         no_status = λ w context at there. tt;
         leaves = λ is. absurd (cc);
       }
 
     module _ (reason : Reason)
-        (unmade : Turns nothing_more turn trial (Err reason) (lent_to d member.context) new) where
+        (unmade : Turns nothing_more turn attempt (Err reason) (lent_to d member.context) new) where
       abbrev pub unraised_desk : Desk
       unraised_desk = desk_unmade d caller member new
 
       unmade_by : (w : World) → IsWorld d w
-          → TurnsBy (needs_in trial nothing_more turn (lent_to d member.context) w.store) trial
+          → TurnsBy (needs_in attempt nothing_more turn (lent_to d member.context) w.store) attempt
           (Err reason) (turn (lent_to d member.context) w.store) w.store
           (lent_to d member.context) new
       unmade_by w at =
@@ -275,7 +275,7 @@ module _ (operator : Operator) (caller : ℕ) (trial : Trial) (shown : Option (�
 
       -- by the line of the error, of which the output has no room
       line_wants : (w : World) → IsWorld d w
-          → growth_for (needs_in trial nothing_more turn (lent_to d member.context) w.store)
+          → growth_for (needs_in attempt nothing_more turn (lent_to d member.context) w.store)
           ≡ deed_wants (calling_of operator) w (context_of d.heap d.names member) (fails error)
       line_wants w at = λ i.
           growth_for (error_needs no_rooms (birth_at d.heap member.context.error_dictionary)
@@ -285,24 +285,24 @@ module _ (operator : Operator) (caller : ℕ) (trial : Trial) (shown : Option (�
 
       line_held : (w : World) (context : Context) → IsWorld d w
           → context_at w caller ≡ Some context
-          → IsHeldUpAs (deed_wants (calling_of operator) w context (fails error)) trial.slot
+          → IsHeldUpAs (deed_wants (calling_of operator) w context (fails error)) attempt.slot
           new.heap new.grants reason
       line_held w context at there =
           let l = lent_to d member.context in
           let by = unmade_by w at in
-          let needs = needs_in trial nothing_more turn l w.store in
+          let needs = needs_in attempt nothing_more turn l w.store in
           let fewer : needs.records ≤ most_records =
-          few_in trial.refused (nothing_more l w.store) (birth_at l.heap l.error_dictionary)
+          few_in attempt.refused (nothing_more l w.store) (birth_at l.heap l.error_dictionary)
           (scene_of l w.store) (turn l w.store) (omega arith) in
           let here : Some (context_of d.heap d.names member) ≡ Some context =
           sym (context_there d w at caller member found) ∙ there in
           let same : context_of d.heap d.names member ≡ context = cc in
           subst (λ (one : Context). IsHeldUpAs
-          (deed_wants (calling_of operator) w one (fails error)) trial.slot new.heap new.grants
+          (deed_wants (calling_of operator) w one (fails error)) attempt.slot new.heap new.grants
           reason) same
-          (subst (λ (wanted : Growth). IsHeldUpAs wanted trial.slot new.heap new.grants reason)
+          (subst (λ (wanted : Growth). IsHeldUpAs wanted attempt.slot new.heap new.grants reason)
           (line_wants w at)
-          (held_by needs trial.slot l new reason fewer by.did.1 by.logs.closed by.did.0))
+          (held_by needs attempt.slot l new reason fewer by.did.1 by.logs.closed by.did.0))
 
       -- the desk before what was done is the same but for what was granted
       unraised_same : (w : World) → IsWorld old w → IsSameDesk old unraised_desk
@@ -316,13 +316,13 @@ module _ (operator : Operator) (caller : ℕ) (trial : Trial) (shown : Option (�
           same_then old d unraised_desk kept
           (same_desk d caller member new found (unmade_by w to.1).did.1)
 
-      pub unraised : Calls operator caller trial shown (Err reason) old unraised_desk
+      pub unraised : Calls operator caller attempt shown (Err reason) old unraised_desk
       unraised = record {
         meets = λ w context at there.
-            unmade_world d steady caller member found nothing_more turn trial new reason unmade w
+            unmade_world d steady caller member found nothing_more turn attempt new reason unmade w
             (done.meets w context at there).1;
         steady =
-            unmade_steady d steady caller member found nothing_more turn trial new reason unmade;
+            unmade_steady d steady caller member found nothing_more turn attempt new reason unmade;
         keeps = Keeps-then old.heap d.heap new.heap done.keeps unmade.keeps;
         program = unmade.stays.program ∙ done.program;
         most = unmade.stays.most ∙ done.most;
@@ -336,19 +336,19 @@ module _ (operator : Operator) (caller : ℕ) (trial : Trial) (shown : Option (�
             let same : reason ≡ why = cc in
             let to = done.meets w context at there in
             subst (λ r. IsHeldUpAs
-            (call_wants (calling_of operator) caller trial.refused w context) trial.slot
+            (call_wants (calling_of operator) caller attempt.refused w context) attempt.slot
             new.heap new.grants r) same
             (subst (λ (outcome : Outcome Deed). IsHeldUpAs
-            (deed_wants (calling_of operator) w context outcome) trial.slot new.heap new.grants
+            (deed_wants (calling_of operator) w context outcome) attempt.slot new.heap new.grants
             reason) (sym (to.0 None))
             (line_held w context to.1 there));
-        logs = logs_then 0 0 0 old.grants d.grants new.grants trial.slot (omega arith) done.logs
+        logs = logs_then 0 0 0 old.grants d.grants new.grants attempt.slot (omega arith) done.logs
             unmade.logs;
         no_status = λ w context at there. λ refused any.
             called_no (calling_of operator) caller refused any w context
             (other_or_status operator context.operands (call_by caller any w context)
-            (λ is. failed_no trial.refused w context caller any error
-            (ap (λ (one : Operator). outcome_of one caller trial.refused w context any) (sym is)
+            (λ is. failed_no attempt.refused w context caller any error
+            (ap (λ (one : Operator). outcome_of one caller attempt.refused w context any) (sym is)
             ∙ (done.meets w context at there).0 any)));
         leaves = λ is. absurd (cc);
       }

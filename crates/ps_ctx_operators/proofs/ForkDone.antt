@@ -27,7 +27,7 @@ use Rattle.ps_ops_control.specs.declared.frames.Frame.{Frame}
 use Rattle.ps_ops_state.specs.declared.breaks.Break.{Break}
 use Rattle.ps_ops_state.specs.declared.breaks.Break.TheVariants.{NotMade}
 use Rattle.ps_ops_state.specs.declared.lent.Context.{Context as Begun}
-use Rattle.ps_ops_state.specs.declared.lent.Trial.{Trial}
+use Rattle.ps_ops_state.specs.declared.lent.Attempt.{Attempt}
 use Rattle.ps_ops_state.specs.Acts.{Acts, nothing_asked, effect_in}
 use Rattle.ps_ops_state.specs.Lent.{Lent, scene_of, IsShown}
 use Rattle.ps_ops_state.proofs.Meeting.{keeps-same, logs-same}
@@ -171,7 +171,7 @@ seat_below h names members (Some seat) is within x there =
 
 -- ---- fork
 
-module _ (caller : ℕ) (trial : Trial) (shown : Option (ℤ × ℤ)) (d : Desk) (steady : IsSteady d)
+module _ (caller : ℕ) (attempt : Attempt) (shown : Option (ℤ × ℤ)) (d : Desk) (steady : IsSteady d)
     (member : Member) (found : item_at d.members caller ≡ Some member)
     (runs : member.course ≡ Running) (seat : Option ℕ)
     (seats : (h : Heap) (names : List (List ℕ)) → seat ≡ seat_in (contexts_in h names d.members))
@@ -222,7 +222,7 @@ module _ (caller : ℕ) (trial : Trial) (shown : Option (ℤ × ℤ)) (d : Desk)
   -- ---- it is made
 
   module _ (begun : Begun)
-      (acts : Acts nothing_asked (fork_caller seat) trial (Ok tt) l new) where
+      (acts : Acts nothing_asked (fork_caller seat) attempt (Ok tt) l new) where
     now_steady : IsSteady part
     now_steady = part_steady d caller member found runs new steady acts.keeps acts.stays acts.good
 
@@ -230,9 +230,9 @@ module _ (caller : ℕ) (trial : Trial) (shown : Option (ℤ × ℤ)) (d : Desk)
     now_runs = part_runs d caller member found runs new
 
     -- without a seat there is an error
-    pub seatless_done : is_some seat ≡ false → DoesBy Fork caller trial shown (Ok Nothing) d part
+    pub seatless_done : is_some seat ≡ false → DoesBy Fork caller attempt shown (Ok Nothing) d part
     seatless_done none =
-        acted Fork caller trial shown d steady member found runs nothing_asked nothing_few
+        acted Fork caller attempt shown d steady member found runs nothing_asked nothing_few
         (fork_caller seat) fork_plain fork_next (λ any. Unit {0})
         (λ any w scene says is. stores_there any w scene is)
         (λ any w says at. law_there any w at) new tt Nothing (λ is. absurd (cc)) acts part.members now_steady now_runs
@@ -262,10 +262,10 @@ module _ (caller : ℕ) (trial : Trial) (shown : Option (ℤ × ℤ)) (d : Desk)
             refl,
           )
 
-      pub forked_done : DoesBy Fork caller trial shown (Ok Nothing) d
+      pub forked_done : DoesBy Fork caller attempt shown (Ok Nothing) d
           (more_desk part (begun_member begun))
       forked_done =
-          acted Fork caller trial shown d steady member found runs nothing_asked nothing_few
+          acted Fork caller attempt shown d steady member found runs nothing_asked nothing_few
           (fork_caller seat) fork_plain fork_next (λ any. Unit {0})
           (λ any w scene says is. stores_there any w scene is)
           (λ any w says at. law_there any w at) new tt Nothing (λ is. absurd (cc)) acts
@@ -280,10 +280,10 @@ module _ (caller : ℕ) (trial : Trial) (shown : Option (ℤ × ℤ)) (d : Desk)
 
   -- ---- it is not
 
-  broken : (why : Break) → Acts nothing_asked (fork_caller seat) trial (Err why) l new
-      → DoesBy Fork caller trial shown (Err why) d part
+  broken : (why : Break) → Acts nothing_asked (fork_caller seat) attempt (Err why) l new
+      → DoesBy Fork caller attempt shown (Err why) d part
   broken why acts =
-      broke_off Fork caller trial shown d steady member found runs nothing_asked nothing_few
+      broke_off Fork caller attempt shown d steady member found runs nothing_asked nothing_few
       (fork_caller seat) fork_plain fork_next (λ any. Unit {0})
       (λ any w scene says is. stores_there any w scene is)
       (λ any w says at. law_there any w at) new (λ any. tt) why (λ is. absurd (cc)) acts
@@ -297,10 +297,10 @@ module _ (caller : ℕ) (trial : Trial) (shown : Option (ℤ × ℤ)) (d : Desk)
       contexts_more w.contexts caller (left_of (with_scene scene here.status
       (machine_of w here)).context) (Some context)
 
-  wants_more : (w : World) (scene : Scene) (begun : Option Context) → trial.refused ≡ false
+  wants_more : (w : World) (scene : Scene) (begun : Option Context) → attempt.refused ≡ false
       → IsWithStore scene (given begun TypeCheck λ context.
       doing (with_context_more context (with_scene_of (call_by caller None w here) scene)))
-      → (deed_wants (calling_of Fork) w here (deed_given_room trial.refused w
+      → (deed_wants (calling_of Fork) w here (deed_given_room attempt.refused w
       (given begun TypeCheck λ context.
       doing (with_context_more context (with_scene_of (call_by caller None w here) scene))))).beside
       ≡ true
@@ -311,14 +311,14 @@ module _ (caller : ℕ) (trial : Trial) (shown : Option (ℤ × ℤ)) (d : Desk)
       (with_scene_of (call_by caller None w here) scene))))).beside) given_it
       ∙ one_more w scene context
 
-  starved : (w : World) → IsWorld d w → trial.refused ≡ false → (effect : Effect)
+  starved : (w : World) → IsWorld d w → attempt.refused ≡ false → (effect : Effect)
       → effect_in (fork_caller seat) l w.store ≡ effect → IsMaking effect
       → IsPlain (scene_of l w.store) effect
-      → (call_wants (calling_of Fork) caller trial.refused w here).beside ≡ true
+      → (call_wants (calling_of Fork) caller attempt.refused w here).beside ≡ true
   starved w at given_it (makes scene output) is making plain =
       let made = is ∙ ap (makes scene) plain.0 in
       ap (λ (o : Outcome Deed).
-      (deed_wants (calling_of Fork) w here (deed_given_room trial.refused w o)).beside)
+      (deed_wants (calling_of Fork) w here (deed_given_room attempt.refused w o)).beside)
       (law_there None w at
       ∙ ap (λ e. after_part e (fork_next None w)) (part_is_there w at ∙ made))
       ∙ wants_more w scene (forked here here.operands (length w.store)) given_it
@@ -334,7 +334,7 @@ module _ (caller : ℕ) (trial : Trial) (shown : Option (ℤ × ℤ)) (d : Desk)
   starved w at given_it (unwinds cause scene) is making plain = absurd making
   starved w at given_it (calls deed) is making plain = absurd making
 
-  module _ (same : new ≡ l) (given_it : trial.refused ≡ false)
+  module _ (same : new ≡ l) (given_it : attempt.refused ≡ false)
       (making : (store : Store) → IsShown l store → IsMaking (effect_in (fork_caller seat) l store))
     where
       same_desk : part ≡ d
@@ -343,7 +343,7 @@ module _ (caller : ℕ) (trial : Trial) (shown : Option (ℤ × ℤ)) (d : Desk)
           ∙ ap (λ (members : List (Option Member)). record d { members = members })
           (with_item-same d.members caller member found)
 
-      starved_there : DoesBy Fork caller trial shown (Err (NotMade Memory)) d d
+      starved_there : DoesBy Fork caller attempt shown (Err (NotMade Memory)) d d
       starved_there = record {
         meets = λ w context at there. at;
         steady = steady;
@@ -356,25 +356,25 @@ module _ (caller : ℕ) (trial : Trial) (shown : Option (ℤ × ℤ)) (d : Desk)
         held_up = λ reason is w context at there.
             let why : Memory ≡ reason = cc in
             subst (λ r. IsHeldUpAs
-            (call_wants (calling_of Fork) caller trial.refused w context) trial.slot d.heap
+            (call_wants (calling_of Fork) caller attempt.refused w context) attempt.slot d.heap
             d.grants r) why
             (subst (λ (one : Context).
-            may_fail d.heap.space.grows (call_wants (calling_of Fork) caller trial.refused w one)
+            may_fail d.heap.space.grows (call_wants (calling_of Fork) caller attempt.refused w one)
             ≡ true)
             (here_is d w at caller member found context there)
             (or_true _ _ (starved w at given_it (effect_in (fork_caller seat) l w.store) refl
             (making w.store (shown_there w at)) (fork_plain l w.store))));
-        logs = logs-same 0 d.grants trial.slot;
+        logs = logs-same 0 d.grants attempt.slot;
         made = λ is. absurd (cc);
         leaves = λ is. refl;
       }
 
-      no_stacks : DoesBy Fork caller trial shown (Err (NotMade Memory)) d part
+      no_stacks : DoesBy Fork caller attempt shown (Err (NotMade Memory)) d part
       no_stacks =
-          subst (λ (one : Desk). DoesBy Fork caller trial shown (Err (NotMade Memory)) d one)
+          subst (λ (one : Desk). DoesBy Fork caller attempt shown (Err (NotMade Memory)) d one)
           (sym same_desk) starved_there
 
-  pub unforked_done : (why : Unforked) → Forks seat trial (Err why) l new
-      → DoesBy Fork caller trial shown (Err (break_of why)) d part
+  pub unforked_done : (why : Unforked) → Forks seat attempt (Err why) l new
+      → DoesBy Fork caller attempt shown (Err (break_of why)) d part
   unforked_done (Breaks why) forks = broken why forks
   unforked_done NoStacks forks = no_stacks forks.0 forks.1 forks.2

@@ -39,7 +39,7 @@ use Rattle.ps_ops_operands.proofs.Ready.{plain_value, plain_within}
 use Rattle.ps_ops_control.specs.declared.frames.Frame.TheVariants.{Procedure}
 use Rattle.ps_ops_control.specs.Frames.{frame_of, IsHeld, AreFrames, IsFrameWithin}
 use Rattle.ps_ops_state.specs.declared.breaks.Break.TheVariants.{Raises}
-use Rattle.ps_ops_state.specs.declared.lent.Trial.{Trial}
+use Rattle.ps_ops_state.specs.declared.lent.Attempt.{Attempt}
 use Rattle.ps_ops_state.specs.Lent.{Lent, scene_of, IsShown, IsGood}
 use Rattle.ps_ops_state.specs.Acts.{nothing_asked, effect_in, Acts}
 use Rattle.ps_ops_state.proofs.Reasons.{room_reason}
@@ -265,31 +265,31 @@ module _ (l : Lent) (top : Word) (one : Some top ≡ first_of l.operands) (body 
             → IsMaking (effect_in (fork_caller seat) l store)
         fork_making store shown = rw (fork_is store) tt
 
-        module _ (good : IsGood l) (trial : Trial) where
-          pub fork_refused : trial.refused ≡ true
-              → Acts nothing_asked (fork_caller seat) trial (Err (Raises VmError)) l l
+        module _ (good : IsGood l) (attempt : Attempt) where
+          pub fork_refused : attempt.refused ≡ true
+              → Acts nothing_asked (fork_caller seat) attempt (Err (Raises VmError)) l l
           fork_refused refused =
-              refused_acts l [] l.names (sym (append-nil l.names)) (fork_caller seat) trial l.grants
-              nothing_asked good (granted_logs l.grants l.grants trial.slot refl) (inl refl)
+              refused_acts l [] l.names (sym (append-nil l.names)) (fork_caller seat) attempt l.grants
+              nothing_asked good (granted_logs l.grants l.grants attempt.slot refl) (inl refl)
               λ store shown. record {
                 scene = left_scene store;
                 output = [];
                 is = fork_is store;
                 names_are = refl;
-                lacking = lacking_room trial.refused store refused;
+                lacking = lacking_room attempt.refused store refused;
               }
 
-          module _ (unrefused : trial.refused ≡ false) where
+          module _ (unrefused : attempt.refused ≡ false) where
             pub fork_wants : (grants : Grants) (reason : Reason) → IsRoomReason reason l.heap 32 1
                 → (store : Store) → IsShown l store
-                → Wants (fork_caller seat) trial nothing_asked l reason
+                → Wants (fork_caller seat) attempt nothing_asked l reason
                 (record l { grants = grants }) store
             fork_wants grants reason why store shown = record {
               scene = left_scene store;
               output = [];
               is = fork_is store;
-              enough = having_room trial.refused store unrefused;
-              why = room_reason _ trial.slot l (record l { grants = grants }) 32 1 (made_words store)
+              enough = having_room attempt.refused store unrefused;
+              why = room_reason _ attempt.slot l (record l { grants = grants }) 32 1 (made_words store)
                   (made_births store) (omega arith) reason why;
             }
 
@@ -307,13 +307,13 @@ module _ (l : Lent) (top : Word) (one : Some top ≡ first_of l.operands) (body 
               stay_held : AreValues l.heap below
               stay_held = rest_held (IsValue l.heap) l.operands good.operands (depth + 1)
 
-              logs : KeepsLogsWithin 0 l.grants left trial.slot
-              logs = logs_then 0 0 0 l.grants mid left trial.slot (omega arith)
-                  (granted_logs l.grants mid trial.slot asked)
-                  (new_logs mid left address 32 1 trial.slot after)
+              logs : KeepsLogsWithin 0 l.grants left attempt.slot
+              logs = logs_then 0 0 0 l.grants mid left attempt.slot (omega arith)
+                  (granted_logs l.grants mid attempt.slot asked)
+                  (new_logs mid left address 32 1 attempt.slot after)
 
               fork_made : (store : Store) → IsShown l store
-                  → Made (fork_caller seat) trial nothing_asked l left_lent store
+                  → Made (fork_caller seat) attempt nothing_asked l left_lent store
               fork_made store shown =
                   let known = known_values l.heap below stay_held in
                   let lasts = longer store (new_error_dictionary ∷ []) in
@@ -331,7 +331,7 @@ module _ (l : Lent) (top : Word) (one : Some top ≡ first_of l.operands) (body 
                     after = after_fork store;
                     output = [];
                     is = fork_is store ∙ ap (λ (scene : Scene). makes scene []) (sym is.is);
-                    enough = having_room trial.refused store unrefused;
+                    enough = having_room attempt.refused store unrefused;
                     shown = record {
                       shows = is.shown.shows;
                       operands = is.shown.operands;
@@ -343,9 +343,9 @@ module _ (l : Lent) (top : Word) (one : Some top ≡ first_of l.operands) (body 
                     logs = logs;
                   }
 
-              pub fork_acts : Acts nothing_asked (fork_caller seat) trial (Ok tt) l left_lent
+              pub fork_acts : Acts nothing_asked (fork_caller seat) attempt (Ok tt) l left_lent
               fork_acts =
-                  left_acts (fork_caller seat) trial nothing_asked l good left_lent
+                  left_acts (fork_caller seat) attempt nothing_asked l good left_lent
                   (changed_good l good new left (w ∷ below) keeps (record {
                     sound = sound;
                     values = (
@@ -353,7 +353,7 @@ module _ (l : Lent) (top : Word) (one : Some top ≡ first_of l.operands) (body 
                       AreValues-kept l.heap new keeps below stay_held,
                     );
                   })) keeps (stays_as l left_lent refl refl refl refl (omega arith) (at_least-same _))
-                  (logs_more 0 most_records l.grants left trial.slot (omega arith) logs) fork_made
+                  (logs_more 0 most_records l.grants left attempt.slot (omega arith) logs) fork_made
 
   -- ---- the new context
 

@@ -25,7 +25,7 @@ use Rattle.ps_ops_operands.specs.declared.failure.NotMade.TheVariants.{LogFull, 
 use Rattle.ps_ops_operands.specs.Changes.{values_in}
 use Rattle.ps_ops_state.specs.declared.breaks.Break.{Break}
 use Rattle.ps_ops_state.specs.declared.breaks.Break.TheVariants.{Unwinds, Raises, NotMade}
-use Rattle.ps_ops_state.specs.declared.lent.Trial.{Trial}
+use Rattle.ps_ops_state.specs.declared.lent.Attempt.{Attempt}
 use Rattle.ps_ops_state.specs.Acts.{ActsAs, IsReason, nothing_asked, needs_as, needs_between, lacks, effect_in}
 use Rattle.ps_ops_state.specs.Lent.{Lent, scene_of, IsShown, IsGood}
 use Rattle.ps_ops_state.proofs.Meeting.{keeps-same, lacks_for_same, logs-same}
@@ -97,7 +97,7 @@ never_made before scene slot old new (NotMade reason) store names did =
 
 -- ---- join
 
-module _ (caller identifier : ℕ) (trial : Trial) (shown : Option (ℤ × ℤ)) (d : Desk)
+module _ (caller identifier : ℕ) (attempt : Attempt) (shown : Option (ℤ × ℤ)) (d : Desk)
     (steady : IsSteady d) (member : Member) (found : item_at d.members caller ≡ Some member)
     (runs : member.course ≡ Running) (hands : HandsOver caller identifier d.members)
     (new : Lent) where
@@ -127,7 +127,7 @@ module _ (caller identifier : ℕ) (trial : Trial) (shown : Option (ℤ × ℤ))
 
   module _ (result : Result Unit Break)
       (acts : ActsWhere (λ store. AreWithin d.heap d.names store words) nothing_asked
-      (join_caller taken) trial result l new) where
+      (join_caller taken) attempt result l new) where
     now_steady : IsSteady part
     now_steady = part_steady d caller member found runs new steady acts.keeps acts.stays acts.good
 
@@ -154,8 +154,8 @@ module _ (caller identifier : ℕ) (trial : Trial) (shown : Option (ℤ × ℤ))
       effect = effect_in (join_caller taken) l w.store
 
       did : ActsAs (needs_as (nothing_asked before) before effect
-          (lacks trial.refused before effect)) trial.slot before result effect
-          (lacks trial.refused before effect) l new
+          (lacks attempt.refused before effect)) attempt.slot before result effect
+          (lacks attempt.refused before effect) l new
       did = (acts.meets w.store
           (member_at (λ one. IsShown (lent_to d one.context) w.store) d.members caller member
           at.members found)
@@ -163,10 +163,10 @@ module _ (caller identifier : ℕ) (trial : Trial) (shown : Option (ℤ × ℤ))
           hands.other at.members hands.there).operands).did
 
       -- the row of the caller's part, and what is done once that is left
-      outcome_by : outcome_of Join caller trial.refused w here shown
-          ≡ deed_given_room trial.refused w (after_part effect (join_next w))
+      outcome_by : outcome_of Join caller attempt.refused w here shown
+          ≡ deed_given_room attempt.refused w (after_part effect (join_next w))
       outcome_by =
-          ap (deed_given_room trial.refused w)
+          ap (deed_given_room attempt.refused w)
           (join_there d.heap d.names caller identifier d.members hands.named member found w shown
           at.contexts hands.other hands.there false true
           (ne_eqb identifier caller hands.apart) hands.finished
@@ -192,30 +192,30 @@ module _ (caller identifier : ℕ) (trial : Trial) (shown : Option (ℤ × ℤ))
   -- ---- it acts
 
   module _ (acts : ActsWhere (λ store. AreWithin d.heap d.names store words) nothing_asked
-      (join_caller taken) trial (Ok tt) l new) where
+      (join_caller taken) attempt (Ok tt) l new) where
     joined_world : (w : World) → IsWorld d w
-        → IsLeftAs Nothing (outcome_of Join caller trial.refused w here shown)
+        → IsLeftAs Nothing (outcome_of Join caller attempt.refused w here shown)
         (left (Ok tt) acts)
     joined_world w at =
         let b = before (Ok tt) acts w at in
         let e = effect (Ok tt) acts w at in
         let made = made_by d caller member found runs new steady acts.keeps acts.stays acts.good w
-        at shown trial (nothing_asked b) (nothing_few b) e (lacks trial.refused b e) refl
+        at shown attempt (nothing_asked b) (nothing_few b) e (lacks attempt.refused b e) refl
         (join_plain w.store) (did (Ok tt) acts w at) in
         subst (λ (o : Outcome Deed). IsLeftAs Nothing o (left (Ok tt) acts))
         (sym (outcome_by (Ok tt) acts w at
-        ∙ (ap (λ e. deed_given_room trial.refused w (after_part e (join_next w))) made.is
+        ∙ (ap (λ e. deed_given_room attempt.refused w (after_part e (join_next w))) made.is
         ∙ ap (λ b. given_that (not b) VmError (join_next w made.scene)) made.enough))) (
           gone_world part identifier
               (with_scene_of (call_by caller shown w here) made.scene) made.world,
           refl,
         )
 
-    pub joined_done : DoesBy Join caller trial shown (Ok Nothing) d (left (Ok tt) acts)
+    pub joined_done : DoesBy Join caller attempt shown (Ok Nothing) d (left (Ok tt) acts)
     joined_done = record {
       meets = λ w context at there.
           subst (λ (one : Context). IsLeftAs Nothing
-          (outcome_of Join caller trial.refused w one shown) (left (Ok tt) acts))
+          (outcome_of Join caller attempt.refused w one shown) (left (Ok tt) acts))
           (here_is d w at caller member found context there) (joined_world w at);
       steady = gone_steady part identifier (now_steady (Ok tt) acts);
       runs = left_runs (Ok tt) acts;
@@ -234,21 +234,21 @@ module _ (caller identifier : ℕ) (trial : Trial) (shown : Option (ℤ × ℤ))
 
   module _ (why : Break)
       (acts : ActsWhere (λ store. AreWithin d.heap d.names store words) nothing_asked
-      (join_caller taken) trial (Err why) l new) where
+      (join_caller taken) attempt (Err why) l new) where
     never : (w : World) → IsWorld d w → ⊥
     never w at =
         let b = before (Err why) acts w at in
         let scene : Scene = record b
         { operands = taken ++ literal mark_value ∷ drop 1 here.operands } in
-        never_made b scene trial.slot l new why refl refl
+        never_made b scene attempt.slot l new why refl refl
         (subst (λ (lacking : Bool). ActsAs (needs_as (nothing_asked b) b (makes scene []) lacking)
-        trial.slot b (Err why) (makes scene []) lacking l new)
-        (lacks_for_same trial.refused w.store)
-        (subst (λ (e : Effect). ActsAs (needs_as (nothing_asked b) b e (lacks trial.refused b e))
-        trial.slot b (Err why) e (lacks trial.refused b e) l new)
+        attempt.slot b (Err why) (makes scene []) lacking l new)
+        (lacks_for_same attempt.refused w.store)
+        (subst (λ (e : Effect). ActsAs (needs_as (nothing_asked b) b e (lacks attempt.refused b e))
+        attempt.slot b (Err why) e (lacks attempt.refused b e) l new)
         (makes_all (Err why) acts w at) (did (Err why) acts w at)))
 
-    pub unjoined_done : DoesBy Join caller trial shown (Err why) d (left (Err why) acts)
+    pub unjoined_done : DoesBy Join caller attempt shown (Err why) d (left (Err why) acts)
     unjoined_done = record {
       meets = λ w context at there. absurd (never w at);
       steady = gone_steady part identifier (now_steady (Err why) acts);
@@ -279,7 +279,7 @@ module _ (caller identifier : ℕ) (d : Desk) (steady : IsSteady d)
   good_before =
       (member_at (IsGoodMember d) d.members caller member steady.members found_before).good
 
-  module _ (trial : Trial) (shown : Option (ℤ × ℤ)) (at : RunsAt caller d.members)
+  module _ (attempt : Attempt) (shown : Option (ℤ × ℤ)) (at : RunsAt caller d.members)
       (other : Member) (there : Some other ≡ item_at d.members identifier) (new : Lent) where
     other_is : other ≡ hands.other
     other_is = one_there d.members identifier other hands.other (sym there) hands.there
@@ -296,17 +296,17 @@ module _ (caller identifier : ℕ) (d : Desk) (steady : IsSteady d)
     abbrev Joins : Result Unit Break → Member → Type 0
     Joins result one =
         ActsWhere (λ store. AreWithin d.heap d.names store one.context.operands) nothing_asked
-        (join_caller (values_in d.heap d.names one.context.operands)) trial result
+        (join_caller (values_in d.heap d.names one.context.operands)) attempt result
         (lent_to d member.context) new
 
     abbrev Does : Result Note Break → List (Option Member) → Type 0
     Does result members =
-        DoesBy Join caller trial shown result d (desk_of new members d.has_faulted)
+        DoesBy Join caller attempt shown result d (desk_of new members d.has_faulted)
 
     pub joined_so : Joins (Ok tt) other → Does (Ok Nothing) (with_item after caller now)
     joined_so acts =
         subst (Does (Ok Nothing)) members_are
-        (joined_done caller identifier trial shown d steady member found_before
+        (joined_done caller identifier attempt shown d steady member found_before
         (runs_by d.members caller member found_before at) hands new
         (subst (Joins (Ok tt)) other_is acts))
 
@@ -314,13 +314,13 @@ module _ (caller identifier : ℕ) (d : Desk) (steady : IsSteady d)
         → Does (Err why) (with_item after caller now)
     unjoined_so why acts =
         subst (Does (Err why)) members_are
-        (unjoined_done caller identifier trial shown d steady member found_before
+        (unjoined_done caller identifier attempt shown d steady member found_before
         (runs_by d.members caller member found_before at) hands new why
         (subst (Joins (Err why)) other_is acts))
 
 -- ---- nothing is done
 
-module _ (caller : ℕ) (trial : Trial) (shown : Option (ℤ × ℤ)) (d : Desk) (steady : IsSteady d)
+module _ (caller : ℕ) (attempt : Attempt) (shown : Option (ℤ × ℤ)) (d : Desk) (steady : IsSteady d)
     (at : RunsAt caller d.members) where
   joins_here : (outcome : Outcome Deed) → JoinsTo caller outcome d.members → (w : World)
       (context : Context) → IsWorld d w → context_at w caller ≡ Some context
@@ -331,10 +331,10 @@ module _ (caller : ℕ) (trial : Trial) (shown : Option (ℤ × ℤ)) (d : Desk)
       (joins d.heap d.names at.member w any at.found world.contexts)
 
   pub unfinished_so : JoinsTo caller (leaves waits) d.members
-      → WaitsBy Join caller trial shown d d
+      → WaitsBy Join caller attempt shown d d
   unfinished_so joins = record {
     meets = λ w context world there. (
-      ap (deed_given_room trial.refused w)
+      ap (deed_given_room attempt.refused w)
           (joins_here (leaves waits) joins w context world there shown),
       world,
     );
@@ -344,10 +344,10 @@ module _ (caller : ℕ) (trial : Trial) (shown : Option (ℤ × ℤ)) (d : Desk)
     program = refl;
     most = refl;
     framed = λ framed. framed;
-    logs = logs-same 5 d.grants trial.slot;
+    logs = logs-same 5 d.grants attempt.slot;
   }
 
   pub misfound_so : (error : ErrorName) → JoinsTo caller (fails error) d.members
-      → DoesBy Join caller trial shown (Err (Raises error)) d d
+      → DoesBy Join caller attempt shown (Err (Raises error)) d d
   misfound_so error joins =
-      raised_there Join caller trial shown d error steady at (joins_here (fails error) joins)
+      raised_there Join caller attempt shown d error steady at (joins_here (fails error) joins)

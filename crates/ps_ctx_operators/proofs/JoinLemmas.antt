@@ -19,7 +19,7 @@ use Rattle.ps_ops_operands.proofs.Sources.{from_same, from_plain, from_append, f
 use Rattle.ps_ops_operands.specs.Changes.{values_in}
 use Rattle.ps_ops_operands.proofs.Held.{all_append}
 use Rattle.ps_ops_operands.proofs.Ready.{plain_value, plain_within}
-use Rattle.ps_ops_state.specs.declared.lent.Trial.{Trial}
+use Rattle.ps_ops_state.specs.declared.lent.Attempt.{Attempt}
 use Rattle.ps_ops_state.specs.Breaks.{made}
 use Rattle.ps_ops_state.specs.Lent.{Lent, scene_of, IsShown, IsGood}
 use Rattle.ps_ops_state.specs.Acts.{nothing_asked, Meets}
@@ -56,7 +56,7 @@ join_from taken old mark plain =
 
 -- ---- on what is lent
 
-module _ (l : Lent) (good : IsGood l) (trial : Trial) (taken after : List Word)
+module _ (l : Lent) (good : IsGood l) (attempt : Attempt) (taken after : List Word)
     (held : AreValues l.heap taken) (from : AreFrom (taken ++ l.operands) after) where
   abbrev joined : Lent
   joined = record l { operands = after }
@@ -64,19 +64,19 @@ module _ (l : Lent) (good : IsGood l) (trial : Trial) (taken after : List Word)
   joined_as : (result : Result Unit ErrorName) (outcome : Outcome (List Value)) (store : Store)
       → IsShown l store → AreWithin l.heap l.names store after
       → DoesAs result outcome (birth_at l.heap) l.names l.operands after
-      → Meets nothing_asked (operands_effect (scene_of l store) outcome) trial (made result)
+      → Meets nothing_asked (operands_effect (scene_of l store) outcome) attempt (made result)
       (scene_of l store) l joined
   joined_as (Ok _) (leaves operands) store shown within did =
-      made_meets nothing_asked trial (scene_of l store) l joined
-      (record (scene_of l store) { operands = operands }) [] (lacks_for_same trial.refused store)
+      made_meets nothing_asked attempt (scene_of l store) l joined
+      (record (scene_of l store) { operands = operands }) [] (lacks_for_same attempt.refused store)
       (changed_left l good l.heap l.grants after (keeps-same l.heap) store store (lasts-same store)
       shown shown.shows within operands did) (sym (append-nil l.printed))
-      (logs-same 0 l.grants trial.slot)
+      (logs-same 0 l.grants attempt.slot)
   joined_as (Ok _) (fails raised) store shown within did = absurd did
   joined_as (Err error) (leaves operands) store shown within did = absurd did
   joined_as (Err error) (fails raised) store shown within did = record {
     did = (did.0, ap (λ (ws : List Word). record l { operands = ws }) did.1);
-    logs = logs-same 0 l.grants trial.slot;
+    logs = logs-same 0 l.grants attempt.slot;
   }
 
   framed_as : (result : Result Unit ErrorName) → OnErr (made result) (l.frames ≡ l.frames)
@@ -88,7 +88,7 @@ module _ (l : Lent) (good : IsGood l) (trial : Trial) (taken after : List Word)
       (join_part (map (value_of births names) taken) (map (value_of births names) l.operands))
       births names l.operands after)
       → ActsWhere (λ store. AreWithin l.heap l.names store taken) nothing_asked
-      (join_caller (values_in l.heap l.names taken)) trial (made result) l joined
+      (join_caller (values_in l.heap l.names taken)) attempt (made result) l joined
   joins_acts result did = record {
     meets = λ store shown inside.
         joined_as result _ store shown
@@ -103,6 +103,6 @@ module _ (l : Lent) (good : IsGood l) (trial : Trial) (taken after : List Word)
     });
     keeps = keeps-same l.heap;
     stays = stays_as l _ refl refl refl refl (omega arith) (at_least-same _);
-    logs = logs-same _ l.grants trial.slot;
+    logs = logs-same _ l.grants attempt.slot;
     framed = framed_as result;
   }

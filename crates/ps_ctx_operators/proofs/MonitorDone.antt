@@ -22,7 +22,7 @@ use Rattle.ps_ops_operands.specs.declared.failure.NotMade.TheVariants.{LogFull, 
 use Rattle.ps_ops_operands.specs.Changes.{most_records}
 use Rattle.ps_ops_state.specs.declared.breaks.Break.{Break}
 use Rattle.ps_ops_state.specs.declared.breaks.Break.TheVariants.{Unwinds, Raises, NotMade}
-use Rattle.ps_ops_state.specs.declared.lent.Trial.{Trial}
+use Rattle.ps_ops_state.specs.declared.lent.Attempt.{Attempt}
 use Rattle.ps_ops_state.specs.Acts.{Acts, ActsAs, Needs, IsReason, no_rooms, effect_in, lacks, needs_as}
 use Rattle.ps_ops_state.specs.Lent.{Lent, Rooms, scene_of, IsShown}
 use Rattle.ps_ops_state.proofs.Meeting.{lacks_for_same}
@@ -144,7 +144,7 @@ never : (b : Bool) → (b ≡ true → ⊥) → b ≡ false
 never true bad = absurd (bad refl)
 never false bad = refl
 
-module _ (caller : ℕ) (trial : Trial) (l new : Lent) (store : Store) where
+module _ (caller : ℕ) (attempt : Attempt) (l new : Lent) (store : Store) where
   abbrev before : Scene
   before = scene_of l store
 
@@ -156,29 +156,29 @@ module _ (caller : ℕ) (trial : Trial) (l new : Lent) (store : Store) where
   BrokeOff why left =
       let effect : Effect = effect_by (λ (o : Option Scene). quiet (unwrap_or o before)) left in
       ActsAs (needs_as (record { records = records_left left; scratch = no_rooms }) before effect
-      (lacks trial.refused before effect)) trial.slot before (Err why) effect
-      (lacks trial.refused before effect) l new
+      (lacks attempt.refused before effect)) attempt.slot before (Err why) effect
+      (lacks attempt.refused before effect) l new
 
   abbrev BrokeOffWaiting : Break → (lacking : Bool) → Type 0
   BrokeOffWaiting why lacking =
       ActsAs (needs_as (record { records = 0; scratch = no_rooms }) before (makes before [])
-      lacking) trial.slot before (Err why) (makes before []) lacking l new
+      lacking) attempt.slot before (Err why) (makes before []) lacking l new
 
   makes_none : (why : Break) → BrokeOffWaiting why false → ⊥
   makes_none (Raises error) did = did
   makes_none (Unwinds cause) did = did
   makes_none (NotMade reason) did =
-      unneeded _ trial.slot l new reason refl (omega arith) refl (made-same store) refl did.0
+      unneeded _ attempt.slot l new reason refl (omega arith) refl (made-same store) refl did.0
 
   -- it doesn't wait
   unwaiting : (why : Break) → BrokeOff why left_here → is_waiting left_here ≡ false
   unwaiting why did = never (is_waiting left_here) λ waiting.
-      makes_none why (subst (BrokeOffWaiting why) (lacks_for_same trial.refused store)
+      makes_none why (subst (BrokeOffWaiting why) (lacks_for_same attempt.refused store)
       (subst (BrokeOff why) (waits_none left_here waiting) did))
 
 -- ---- in a world
 
-module _ (caller : ℕ) (trial : Trial) (shown : Option (ℤ × ℤ)) (d : Desk) (steady : IsSteady d)
+module _ (caller : ℕ) (attempt : Attempt) (shown : Option (ℤ × ℤ)) (d : Desk) (steady : IsSteady d)
     (member : Member) (found : item_at d.members caller ≡ Some member)
     (runs : member.course ≡ Running) (new : Lent) where
   abbrev here : Context
@@ -194,7 +194,7 @@ module _ (caller : ℕ) (trial : Trial) (shown : Option (ℤ × ℤ)) (d : Desk)
   waits_in w = is_waiting (monitor_part caller here.operands (scene_at (call None w)))
 
   -- by what is lent
-  waits_same : (w : World) → IsWorld d w → is_waiting (left_here caller trial l new w.store)
+  waits_same : (w : World) → IsWorld d w → is_waiting (left_here caller attempt l new w.store)
       ≡ waits_in w
   waits_same w at = λ i. is_waiting (monitor_part caller here.operands
       (record (scene_of l w.store) { names = sym at.names i }))
@@ -207,7 +207,7 @@ module _ (caller : ℕ) (trial : Trial) (shown : Option (ℤ × ℤ)) (d : Desk)
   -- what the operator told, of each store that is shown
   abbrev Told : Entered → Type 0
   Told came = (store : Store) → IsShown l store
-      → is_waiting (left_here caller trial l new store) ≡ waits_by came
+      → is_waiting (left_here caller attempt l new store) ≡ waits_by came
 
   told_in : (came : Entered) → Told came → (w : World) → IsWorld d w → waits_in w ≡ waits_by came
   told_in came told w at = sym (waits_same w at) ∙ told w.store (shown_here w at)
@@ -229,10 +229,10 @@ module _ (caller : ℕ) (trial : Trial) (shown : Option (ℤ × ℤ)) (d : Desk)
       (part_at (call any w) (monitor_caller caller))) (never_waits w at)
 
   pub entered : (came : Entered) → waits_by came ≡ false → Told came
-      → Acts (monitor_asked caller) (monitor_caller caller) trial (Ok tt) l new
-      → DoesBy Monitor caller trial shown (Ok Nothing) d (desk_unmade d caller member new)
+      → Acts (monitor_asked caller) (monitor_caller caller) attempt (Ok tt) l new
+      → DoesBy Monitor caller attempt shown (Ok Nothing) d (desk_unmade d caller member new)
   entered came enters told acts =
-      acted Monitor caller trial shown d steady member found runs (monitor_asked caller)
+      acted Monitor caller attempt shown d steady member found runs (monitor_asked caller)
       (monitor_few caller) (monitor_caller caller) (monitor_plain caller) next NeverWaits
       (λ any w scene says is. refl) law new
       (λ w at. told_in came told w at ∙ enters) Nothing (λ is. absurd (cc)) acts
@@ -242,19 +242,19 @@ module _ (caller : ℕ) (trial : Trial) (shown : Option (ℤ × ℤ)) (d : Desk)
       (λ w scene at is world. (world, refl))
 
   pub unentered : (why : Break)
-      → Acts (monitor_asked caller) (monitor_caller caller) trial (Err why) l new
-      → DoesBy Monitor caller trial shown (Err why) d (desk_unmade d caller member new)
+      → Acts (monitor_asked caller) (monitor_caller caller) attempt (Err why) l new
+      → DoesBy Monitor caller attempt shown (Err why) d (desk_unmade d caller member new)
   unentered why acts =
-      broke_off Monitor caller trial shown d steady member found runs (monitor_asked caller)
+      broke_off Monitor caller attempt shown d steady member found runs (monitor_asked caller)
       (monitor_few caller) (monitor_caller caller) (monitor_plain caller) next NeverWaits
       (λ any w scene says is. refl) law new
-      (λ any w at. sym (waits_same w at) ∙ unwaiting caller trial l new w.store why
+      (λ any w at. sym (waits_same w at) ∙ unwaiting caller attempt l new w.store why
       (acts.meets w.store (shown_here w at)).did) why (λ is. absurd (cc)) acts
 
   -- ---- it waits
 
   module _ (came : Entered) (must : waits_by came ≡ true) (told : Told came)
-      (acts : Acts (monitor_asked caller) (monitor_caller caller) trial (Ok tt) l new) where
+      (acts : Acts (monitor_asked caller) (monitor_caller caller) attempt (Ok tt) l new) where
     abbrev pub again_desk : Desk
     again_desk = desk_unmade d caller (in_course Again member) new
 
@@ -266,18 +266,18 @@ module _ (caller : ℕ) (trial : Trial) (shown : Option (ℤ × ℤ)) (d : Desk)
       effect = effect_in (monitor_caller caller) l w.store
 
       made : IsMade d caller member found runs new steady acts.keeps acts.stays acts.good w at
-          shown trial (monitor_asked caller (scene_of l w.store))
+          shown attempt (monitor_asked caller (scene_of l w.store))
           (monitor_few caller (scene_of l w.store)) effect
       made =
           made_by d caller member found runs new steady acts.keeps acts.stays acts.good w at shown
-          trial (monitor_asked caller (scene_of l w.store))
+          attempt (monitor_asked caller (scene_of l w.store))
           (monitor_few caller (scene_of l w.store)) effect
-          (lacks trial.refused (scene_of l w.store) effect) refl (monitor_plain caller l w.store)
+          (lacks attempt.refused (scene_of l w.store) effect) refl (monitor_plain caller l w.store)
           (acts.meets w.store (shown_here w at)).did
 
       same_scene : made.scene ≡ scene_of l w.store
       same_scene =
-          let none = waits_none (left_here caller trial l new w.store)
+          let none = waits_none (left_here caller attempt l new w.store)
           (waits_same w at ∙ waits_here) in
           let same : makes made.scene [] ≡ makes (scene_of l w.store) [] =
           sym made.is
@@ -295,17 +295,17 @@ module _ (caller : ℕ) (trial : Trial) (shown : Option (ℤ × ℤ)) (d : Desk)
           ∙ put_same w caller here (context_there d w at caller member found)
           (goes_left here may))) made.world
 
-      outcome_is : outcome_of Monitor caller trial.refused w here shown ≡ leaves waits
+      outcome_is : outcome_of Monitor caller attempt.refused w here shown ≡ leaves waits
       outcome_is =
-          ap (deed_given_room trial.refused w)
+          ap (deed_given_room attempt.refused w)
           (monitor_deed (call shown w) here.operands
           ∙ ap (λ b. if b then leaves waits else scene_deed nothing (call shown w)
           (part_at (call shown w) (monitor_caller caller))) waits_here)
 
-    pub tries_again : Calls Monitor caller trial shown (Ok TurnEnds) d again_desk
+    pub tries_again : Calls Monitor caller attempt shown (Ok TurnEnds) d again_desk
     tries_again =
         stops caller d steady member found runs new acts.keeps acts.stays acts.good Again refl
-        Monitor trial shown tt tt acts.logs
+        Monitor attempt shown tt tt acts.logs
         (λ w at. subst (λ (outcome : Outcome Deed). CallsTo (Ok TurnEnds)
         (after_deed (calling_of Monitor) caller w outcome) w again_desk) (sym (outcome_is w at)) (
           stops_world caller d steady member found runs new acts.keeps acts.stays acts.good Again

@@ -32,7 +32,7 @@ use Rattle.ps_ops_operands.proofs.Operands.{first_two_split}
 use Rattle.ps_ops_control.specs.declared.frames.Frame.TheVariants.{Procedure, Monitor}
 use Rattle.ps_ops_control.specs.Frames.{frame_of, frames_in, IsHeld, IsFrame, IsFrameWithin}
 use Rattle.ps_ops_control.proofs.Rooms.{fits, full}
-use Rattle.ps_ops_state.specs.declared.lent.Trial.{Trial}
+use Rattle.ps_ops_state.specs.declared.lent.Attempt.{Attempt}
 use Rattle.ps_ops_state.specs.Lent.{Lent, scene_of, IsShown, IsGood}
 use Rattle.ps_ops_state.specs.Acts.{effect_in, Acts}
 use Rattle.ps_ops_state.proofs.Acting.{Made, Wants, left_acts}
@@ -180,7 +180,7 @@ module _ (l : Lent) (p w : Word) (two : Some (p, w) ≡ first_two_of l.operands)
 
 -- ---- what is done
 
-module _ (l : Lent) (good : IsGood l) (trial : Trial) (caller : ℕ) where
+module _ (l : Lent) (good : IsGood l) (attempt : Attempt) (caller : ℕ) where
   -- by what the part leaves
   effect_left : (store : Store) (left : Option Scene) → part l caller store ≡ leaves left
       → effect_in (monitor_caller caller) l store
@@ -190,19 +190,19 @@ module _ (l : Lent) (good : IsGood l) (trial : Trial) (caller : ℕ) where
 
   -- the caller waits
   pub waits_acts : ((store : Store) → IsShown l store → part l caller store ≡ leaves None)
-      → Acts (monitor_asked caller) (monitor_caller caller) trial (Ok tt) l l
+      → Acts (monitor_asked caller) (monitor_caller caller) attempt (Ok tt) l l
   waits_acts is =
-      left_acts (monitor_caller caller) trial (monitor_asked caller) l good l good
+      left_acts (monitor_caller caller) attempt (monitor_asked caller) l good l good
       (keeps-same l.heap) (stays_as l l refl refl refl refl (omega arith) (at_least-same _))
-      (logs-same most_records l.grants trial.slot) λ store shown. record {
+      (logs-same most_records l.grants attempt.slot) λ store shown. record {
         after = store;
         output = [];
         is = effect_left store None (is store shown);
-        enough = lacks_for_same trial.refused store;
+        enough = lacks_for_same attempt.refused store;
         shown = shown;
         lasts = lasts-same store;
         printed = sym (append-nil l.printed);
-        logs = logs-same _ l.grants trial.slot;
+        logs = logs-same _ l.grants attempt.slot;
       }
 
   module _ (lock : ℕ) (known : StandsAs l.heap LockKind lock 1) (body : Part)
@@ -221,8 +221,8 @@ module _ (l : Lent) (good : IsGood l) (trial : Trial) (caller : ℕ) where
 
     -- a record can't be put
     pub enter_wants : (grants : Grants) (reason : Reason)
-        → IsUnlogged 1 trial.slot l.grants grants reason → (store : Store) → IsShown l store
-        → Wants (monitor_caller caller) trial (monitor_asked caller) l reason
+        → IsUnlogged 1 attempt.slot l.grants grants reason → (store : Store) → IsShown l store
+        → Wants (monitor_caller caller) attempt (monitor_asked caller) l reason
         (record l { grants = grants }) store
     enter_wants grants reason why store shown =
         let there = lock_shown l.heap lock known l.names store shown.shows in
@@ -231,9 +231,9 @@ module _ (l : Lent) (good : IsGood l) (trial : Trial) (caller : ℕ) where
           scene = _;
           output = [];
           is = effect_left store (Some _) (is store shown);
-          enough = lacks_nothing trial.refused store (owned store)
+          enough = lacks_nothing attempt.refused store (owned store)
               (made_owned store (birth_at l.heap lock) there.0 there.1 (Some caller));
-          why = unlogged_reason trial.slot 1 (omega arith) l (record l { grants = grants })
+          why = unlogged_reason attempt.slot 1 (omega arith) l (record l { grants = grants })
               reason why _ (omega (arith, one));
         }
 
@@ -242,7 +242,7 @@ module _ (l : Lent) (good : IsGood l) (trial : Trial) (caller : ℕ) where
         (births : birth_at new ≡ birth_at l.heap) (some : 1 ≤ caller)
         (shows : (names : List (List ℕ)) (s : Store) → Shows l.heap names s
         → Shows new names (with_owner s (birth_at l.heap lock) (owner_by caller)))
-        (logs : KeepsLogsWithin 1 l.grants left trial.slot) (held : IsHeld l.heap body) where
+        (logs : KeepsLogsWithin 1 l.grants left attempt.slot) (held : IsHeld l.heap body) where
       abbrev entered_lent : Lent
       entered_lent = record l {
         heap = new;
@@ -284,7 +284,7 @@ module _ (l : Lent) (good : IsGood l) (trial : Trial) (caller : ℕ) where
       }
 
       entered_made : (store : Store) → IsShown l store
-          → Made (monitor_caller caller) trial (monitor_asked caller) l entered_lent store
+          → Made (monitor_caller caller) attempt (monitor_asked caller) l entered_lent store
       entered_made store shown =
           let there = lock_shown l.heap lock known l.names store shown.shows in
           let b = birth_at l.heap lock in
@@ -297,7 +297,7 @@ module _ (l : Lent) (good : IsGood l) (trial : Trial) (caller : ℕ) where
             output = [];
             is = effect_left store (Some _) (is store shown)
                 ∙ ap (λ (c : ℕ → ℕ). makes (scene_by c store) []) (sym births);
-            enough = lacks_nothing trial.refused store (owned store)
+            enough = lacks_nothing attempt.refused store (owned store)
                 (made_owned store b there.0 there.1 (Some caller));
             shown = record {
               shows = subst (λ (o : Option ℕ). Shows new l.names (with_owner store b o))
@@ -317,13 +317,13 @@ module _ (l : Lent) (good : IsGood l) (trial : Trial) (caller : ℕ) where
             };
             lasts = lasts;
             printed = sym (append-nil l.printed);
-            logs = subst (λ (n : ℕ). KeepsLogsWithin n l.grants left trial.slot) (sym one) logs;
+            logs = subst (λ (n : ℕ). KeepsLogsWithin n l.grants left attempt.slot) (sym one) logs;
           }
 
-      pub enters_acts : Acts (monitor_asked caller) (monitor_caller caller) trial (Ok tt) l
+      pub enters_acts : Acts (monitor_asked caller) (monitor_caller caller) attempt (Ok tt) l
           entered_lent
       enters_acts =
-          left_acts (monitor_caller caller) trial (monitor_asked caller) l good entered_lent
+          left_acts (monitor_caller caller) attempt (monitor_asked caller) l good entered_lent
           entered_good keeps
           (stays_as l entered_lent refl refl refl refl (omega arith) (at_least-same _))
-          (logs_more 1 most_records l.grants left trial.slot (omega arith) logs) entered_made
+          (logs_more 1 most_records l.grants left attempt.slot (omega arith) logs) entered_made

@@ -18,7 +18,7 @@ use Rattle.ps_mem.specs.References.{StandsAs}
 use Rattle.ps_mem.proofs.KeepsLemmas.{birth_at-kept}
 use Rattle.ps_ops_control.specs.declared.frames.Frame.{Frame}
 use Rattle.ps_ops_state.specs.declared.breaks.Break.{Break}
-use Rattle.ps_ops_state.specs.declared.lent.Trial.{Trial}
+use Rattle.ps_ops_state.specs.declared.lent.Attempt.{Attempt}
 use Rattle.ps_ops_state.specs.Acts.{Acts, nothing_asked, effect_in}
 use Rattle.ps_ops_state.specs.Lent.{Lent, scene_of}
 use Rattle.ps_ctx_table.specs.declared.members.Course.{Course}
@@ -115,7 +115,7 @@ others_framed condition caller members framed =
 
 -- ---- notify
 
-module _ (caller : ℕ) (trial : Trial) (shown : Option (ℤ × ℤ)) (d : Desk) (steady : IsSteady d)
+module _ (caller : ℕ) (attempt : Attempt) (shown : Option (ℤ × ℤ)) (d : Desk) (steady : IsSteady d)
     (member : Member) (found : item_at d.members caller ≡ Some member)
     (runs : member.course ≡ Running) (new : Lent) where
   abbrev held : List Value
@@ -151,7 +151,7 @@ module _ (caller : ℕ) (trial : Trial) (shown : Option (ℤ × ℤ)) (d : Desk)
   module _ (condition : ℕ) (stood : StandsAs d.heap ConditionKind condition 1)
       (stands : StandsAs new.heap ConditionKind condition 1)
       (told : notified_condition held ≡ Some (birth_at d.heap condition))
-      (acts : Acts nothing_asked notify_caller trial (Ok tt) (lent_to d member.context) new) where
+      (acts : Acts nothing_asked notify_caller attempt (Ok tt) (lent_to d member.context) new) where
     abbrev pub part : Desk
     part = desk_unmade d caller member new
 
@@ -163,10 +163,10 @@ module _ (caller : ℕ) (trial : Trial) (shown : Option (ℤ × ℤ)) (d : Desk)
         told ∙ ap (λ (birth : ℕ). Some birth) (sym (birth_at-kept d.heap new.heap acts.keeps
         condition stood.object stood.at))
 
-    pub notified_done : DoesBy Notify caller trial shown (Ok Nothing) d
+    pub notified_done : DoesBy Notify caller attempt shown (Ok Nothing) d
         (notified_desk part now_steady condition stands)
     notified_done =
-        acted Notify caller trial shown d steady member found runs nothing_asked nothing_few
+        acted Notify caller attempt shown d steady member found runs nothing_asked nothing_few
         notify_caller notify_plain notify_next (λ any. Unit {0})
         (λ any w scene says is. notify_stores (scene_of (lent_to d member.context) w.store) scene
         (call_by caller any w (context_of d.heap d.names member)) held is)
@@ -186,10 +186,10 @@ module _ (caller : ℕ) (trial : Trial) (shown : Option (ℤ × ℤ)) (d : Desk)
         ))
 
   pub unnotified : (why : Break)
-      → Acts nothing_asked notify_caller trial (Err why) (lent_to d member.context) new
-      → DoesBy Notify caller trial shown (Err why) d (desk_unmade d caller member new)
+      → Acts nothing_asked notify_caller attempt (Err why) (lent_to d member.context) new
+      → DoesBy Notify caller attempt shown (Err why) d (desk_unmade d caller member new)
   unnotified why acts =
-      broke_off Notify caller trial shown d steady member found runs nothing_asked nothing_few
+      broke_off Notify caller attempt shown d steady member found runs nothing_asked nothing_few
       notify_caller notify_plain notify_next (λ any. Unit {0})
       (λ any w scene says is. notify_stores (scene_of (lent_to d member.context) w.store) scene
       (call_by caller any w (context_of d.heap d.names member)) held is)

@@ -22,7 +22,7 @@ use Rattle.ps_ops_operands.specs.declared.failure.NotMade.{NotMade as Reason}
 use Rattle.ps_ops_operands.specs.Changes.{most_records}
 use Rattle.ps_ops_state.specs.declared.breaks.Break.{Break}
 use Rattle.ps_ops_state.specs.declared.breaks.Break.TheVariants.{Unwinds, Raises, NotMade}
-use Rattle.ps_ops_state.specs.declared.lent.Trial.{Trial}
+use Rattle.ps_ops_state.specs.declared.lent.Attempt.{Attempt}
 use Rattle.ps_ops_state.specs.Acts.{Asked, Needs, no_rooms, nothing_asked, names_formed, needs_between, needs_of_refused}
 use Rattle.ps_ops_state.specs.Acts.{needs_as, lacks, IsReason, IsLeft, IsSame, Stays, ActsAs, effect_in}
 use Rattle.ps_ops_state.specs.Lent.{Lent, scene_of, IsGood}
@@ -183,16 +183,16 @@ module _ (d : Desk) (caller : ℕ) (member : Member)
 
       -- ---- by the effect
 
-      module _ (trial : Trial) (asked : Asked) (few : IsFew asked) where
+      module _ (attempt : Attempt) (asked : Asked) (few : IsFew asked) where
         abbrev Did : Result Unit Break → Effect → Bool → Type 0
         Did result effect lacking =
-            ActsAs (needs_as asked before effect lacking) trial.slot before result effect lacking l
+            ActsAs (needs_as asked before effect lacking) attempt.slot before result effect lacking l
             new
 
         pub record IsMade (effect : Effect) : Type 0 where
           pub scene : Scene
           pub is : effect ≡ makes scene []
-          pub enough : lacks_room trial.refused w.store scene.store ≡ false
+          pub enough : lacks_room attempt.refused w.store scene.store ≡ false
           pub world : IsWorld part_desk (with_scene_of call scene)
 
         no_more : (bytes output : List ℕ) → output ≡ [] → bytes ++ output ≡ bytes
@@ -203,7 +203,7 @@ module _ (d : Desk) (caller : ℕ) (member : Member)
             append_nil (byte ∷ bytes) = ap (λ rest. byte ∷ rest) (append_nil bytes)
 
         pub made_by : (effect : Effect) (lacking : Bool)
-            → lacks trial.refused before effect ≡ lacking → IsPlain before effect
+            → lacks attempt.refused before effect ≡ lacking → IsPlain before effect
             → Did (Ok tt) effect lacking → IsMade effect
         made_by (makes scene output) false is plain did = record {
           scene = scene;
@@ -217,21 +217,21 @@ module _ (d : Desk) (caller : ℕ) (member : Member)
         made_by (calls deed) lacking is plain did = absurd did
 
         given_room_fails : (scene : Scene) (outcome : Outcome Deed)
-            → IsWithStore scene outcome → lacks_room trial.refused w.store scene.store ≡ true
-            → deed_given_room trial.refused w outcome ≡ fails VmError
+            → IsWithStore scene outcome → lacks_room attempt.refused w.store scene.store ≡ true
+            → deed_given_room attempt.refused w outcome ≡ fails VmError
         given_room_fails scene (leaves (does note world)) same lacks_it =
-            ap (λ (store : Store). given_that (not (lacks_room trial.refused w.store store)) VmError
+            ap (λ (store : Store). given_that (not (lacks_room attempt.refused w.store store)) VmError
             (leaves (does note world))) same
             ∙ ap (λ b. given_that (not b) VmError (leaves (does note world))) lacks_it
         given_room_fails scene (leaves waits) same lacks_it = absurd same
         given_room_fails scene (fails error) same lacks_it = absurd same
 
         pub raised_by : (error : ErrorName) (effect : Effect) (lacking : Bool)
-            → lacks trial.refused before effect ≡ lacking → IsPlain before effect
+            → lacks attempt.refused before effect ≡ lacking → IsPlain before effect
             → (next : Scene → Outcome Deed)
             → ((scene : Scene) → effect ≡ makes scene [] → IsWithStore scene (next scene))
             → Did (Err (Raises error)) effect lacking
-            → (deed_given_room trial.refused w (after_part effect next) ≡ fails error)
+            → (deed_given_room attempt.refused w (after_part effect next) ≡ fails error)
             × IsSame l new
         raised_by error (makes scene output) true is plain next stores did = (
           given_room_fails scene (next scene) (stores scene (ap (makes scene) plain.0)) is
@@ -263,12 +263,12 @@ module _ (d : Desk) (caller : ℕ) (member : Member)
 
         -- what makes objects may want a growth
         pub held_up_by : (reason : Reason) (effect : Effect) (lacking : Bool)
-            → lacks trial.refused before effect ≡ lacking → IsPlain before effect
+            → lacks attempt.refused before effect ≡ lacking → IsPlain before effect
             → Did (Err (NotMade reason)) effect lacking → new.grants.closed ≡ d.grants.closed
             → (wanted : Growth) → ((scene : Scene) → effect ≡ makes scene []
-            → lacks_room trial.refused w.store scene.store ≡ false
+            → lacks_room attempt.refused w.store scene.store ≡ false
             → 1 ≤ made_between w.store scene.store → IsAsked wanted w.store scene.store)
-            → IsHeldUpAs wanted trial.slot new.heap new.grants reason
+            → IsHeldUpAs wanted attempt.slot new.heap new.grants reason
         held_up_by reason (makes scene output) false is plain did closed wanted so =
             let needs : Needs = needs_between asked before scene output in
             held_more (growth_for needs) wanted
@@ -276,16 +276,16 @@ module _ (d : Desk) (caller : ℕ) (member : Member)
             (words_alone needs (ap length plain.0) (no_names scene plain.1) few.0)
             (λ some. (so scene (ap (makes scene) plain.0) is some).words)
             (λ some. (so scene (ap (makes scene) plain.0) is some).births
-            ∙ length-drop (length w.store) scene.store)) trial.slot new.heap new.grants reason
-            (held_by needs trial.slot l new reason few.1 did.1 closed did.0)
+            ∙ length-drop (length w.store) scene.store)) attempt.slot new.heap new.grants reason
+            (held_by needs attempt.slot l new reason few.1 did.1 closed did.0)
         held_up_by reason (makes scene output) true is plain did closed wanted so =
             let needs : Needs = needs_of_refused asked.scratch 0 in
             held_more (growth_for needs) wanted
             (words_part needs wanted (words_alone needs refl refl few.0)
             (λ some. absurd (omega (arith, some))) (λ some. absurd (omega (arith, some))))
-            trial.slot new.heap new.grants reason
-            (held_by needs trial.slot l new reason (omega arith) did.1 closed
-            (subst (λ n. IsReason (needs_of_refused asked.scratch n) trial.slot l new reason)
+            attempt.slot new.heap new.grants reason
+            (held_by needs attempt.slot l new reason (omega arith) did.1 closed
+            (subst (λ n. IsReason (needs_of_refused asked.scratch n) attempt.slot l new reason)
             (no_names scene plain.1) did.0))
         held_up_by reason (raises raised) lacking is plain did closed wanted so = absurd did
         held_up_by reason (unwinds cause scene) lacking is plain did closed wanted so = absurd did

@@ -15,7 +15,7 @@ use Rattle.ps_mem.proofs.KeepsLemmas.{AreValues-kept, AreWithin-kept, values_of-
 use Rattle.ps_ops_operands.specs.declared.failure.NotMade.{NotMade as Reason}
 use Rattle.ps_ops_operands.specs.Changes.{KeepsLogsWithin, values_in}
 use Rattle.ps_ops_control.specs.declared.frames.Frame.{Frame}
-use Rattle.ps_ops_state.specs.declared.lent.Trial.{Trial}
+use Rattle.ps_ops_state.specs.declared.lent.Attempt.{Attempt}
 use Rattle.ps_ops_state.specs.Acts.{IsLeft, Stays}
 use Rattle.ps_ops_state.specs.Lent.{Lent, scene_of, IsShown, IsGood}
 use Rattle.ps_ops_state.proofs.Lifts.{changed_good, changed_left}
@@ -73,7 +73,7 @@ lock_is births address lock here context is same to =
     sym is ∙ (ap (λ (one : Context). one.status) same ∙ to) in
     cc
 
-module _ (caller : ℕ) (trial : Trial) (d : Desk) (steady : IsSteady d) (member : Member)
+module _ (caller : ℕ) (attempt : Attempt) (d : Desk) (steady : IsSteady d) (member : Member)
     (found : item_at d.members caller ≡ Some member) (lock : ℕ)
     (waits : member.course ≡ Retaking lock) where
   abbrev here : Context
@@ -94,7 +94,7 @@ module _ (caller : ℕ) (trial : Trial) (d : Desk) (steady : IsSteady d) (member
       (keeps : Keeps d.heap new)
       (shows : (names : List (List ℕ)) (s : Store) → Shows d.heap names s
       → Shows new names (with_owner s (birth_at d.heap lock) (owner_by caller)))
-      (logs : KeepsLogsWithin 1 d.grants left trial.slot) where
+      (logs : KeepsLogsWithin 1 d.grants left attempt.slot) where
     abbrev taken : Lent
     taken = record l { heap = new; grants = left }
 
@@ -158,7 +158,7 @@ module _ (caller : ℕ) (trial : Trial) (d : Desk) (steady : IsSteady d) (member
           went_settled d steady caller member taken Goes d.has_faulted keeps taken_stays taken_good
           w at w.error_lines next taken_left.lasts next_lent tt at.faulted
 
-    pub retakes : Retakes caller trial (Ok tt) d taken_desk
+    pub retakes : Retakes caller attempt (Ok tt) d taken_desk
     retakes = record {
       meets = λ w context named at there to.
           let same : Some here ≡ Some context =
@@ -187,8 +187,8 @@ module _ (caller : ℕ) (trial : Trial) (d : Desk) (steady : IsSteady d) (member
   -- ---- it is not
 
   module _ (left : Grants) (kept : left ≡ record d.grants { records = left.records })
-      (logs : KeepsLogsWithin 0 d.grants left trial.slot) (reason : Reason)
-      (why : IsUnlogged 1 trial.slot d.grants left reason) where
+      (logs : KeepsLogsWithin 0 d.grants left attempt.slot) (reason : Reason)
+      (why : IsUnlogged 1 attempt.slot d.grants left reason) where
     abbrev asked : Lent
     asked = record l { grants = left }
 
@@ -202,7 +202,7 @@ module _ (caller : ℕ) (trial : Trial) (d : Desk) (steady : IsSteady d) (member
         (changed_good l good_there.good d.heap left member.context.operands (keeps-same d.heap)
         (record { sound = steady.sound; values = good_there.good.operands }))
 
-    pub untaken : Retakes caller trial (Err reason) d untaken_desk
+    pub untaken : Retakes caller attempt (Err reason) d untaken_desk
     untaken = record {
       meets = λ w context named at there to. regranted d w left d.room d.scratch at;
       steady = record {
@@ -219,6 +219,6 @@ module _ (caller : ℕ) (trial : Trial) (d : Desk) (steady : IsSteady d) (member
       unmade = refl;
       held_up = λ other is.
           let same : reason ≡ other = cc in
-          subst (IsUnlogged 1 trial.slot d.grants left) same why;
+          subst (IsUnlogged 1 attempt.slot d.grants left) same why;
       logs = logs;
     }

@@ -10,7 +10,7 @@ use Rattle.ps_language.specs.World.{Context, Machine, World}
 use Rattle.ps_mem.specs.Heap.{birth_at}
 use Rattle.ps_mem.specs.Keeps.{Keeps}
 use Rattle.ps_ops_operands.specs.Changes.{KeepsLogsWithin, most_records}
-use Rattle.ps_ops_state.specs.declared.lent.Trial.{Trial}
+use Rattle.ps_ops_state.specs.declared.lent.Attempt.{Attempt}
 use Rattle.ps_ops_state.specs.Acts.{Stays}
 use Rattle.ps_ops_state.specs.Lent.{Lent, IsGood}
 use Rattle.ps_step_outcome.specs.Turns.{calling_of}
@@ -129,16 +129,16 @@ module _ (caller : ℕ) (d : Desk) (steady : IsSteady d) (member : Member)
       sym (context_there d w at caller member found) ∙ named in cc
 
   -- the call that comes to it
-  pub stops : (operator : Operator) (trial : Trial) (shown : Option (ℤ × ℤ))
+  pub stops : (operator : Operator) (attempt : Attempt) (shown : Option (ℤ × ℤ))
       → IsCourseHeld new.heap course → HasFrame course new.frames
-      → KeepsLogsWithin most_records d.grants new.grants trial.slot
+      → KeepsLogsWithin most_records d.grants new.grants attempt.slot
       → ((w : World) → IsWorld d w → CallsTo (Ok TurnEnds)
-      (called (calling_of operator) caller trial.refused shown w here) w stops_desk)
-      → Calls operator caller trial shown (Ok TurnEnds) d stops_desk
-  stops operator trial shown held framed logs to = record {
+      (called (calling_of operator) caller attempt.refused shown w here) w stops_desk)
+      → Calls operator caller attempt shown (Ok TurnEnds) d stops_desk
+  stops operator attempt shown held framed logs to = record {
     meets = λ w context at named.
         subst (λ (one : Context). CallsTo (Ok TurnEnds)
-        (called (calling_of operator) caller trial.refused shown w one) w stops_desk)
+        (called (calling_of operator) caller attempt.refused shown w one) w stops_desk)
         (here_is w context at named) (to w at);
     steady = subst IsSteady stops_is
         (stopped_steady part now_steady caller after there course unfinished held);

@@ -7,7 +7,7 @@ use Rattle.ps_language.specs.Outcome.{fails}
 use Rattle.ps_language.specs.Step.{deed_given_room}
 use Rattle.ps_language.specs.World.{Context, World}
 use Rattle.ps_ops_state.specs.declared.breaks.Break.TheVariants.{Raises}
-use Rattle.ps_ops_state.specs.declared.lent.Trial.{Trial}
+use Rattle.ps_ops_state.specs.declared.lent.Attempt.{Attempt}
 use Rattle.ps_ops_state.proofs.Meeting.{keeps-same, logs-same}
 use Rattle.ps_step_outcome.specs.Turns.{calling_of}
 use Rattle.ps_ctx_table.specs.declared.members.Member.{Member}
@@ -26,15 +26,15 @@ here_is d w at caller member found context there =
     let same : Some (context_of d.heap d.names member) ≡ Some context =
     sym (context_there d w at caller member found) ∙ there in cc
 
-pub raised_there : (operator : Operator) (caller : ℕ) (trial : Trial) (shown : Option (ℤ × ℤ))
+pub raised_there : (operator : Operator) (caller : ℕ) (attempt : Attempt) (shown : Option (ℤ × ℤ))
     (d : Desk) (error : ErrorName) → IsSteady d → RunsAt caller d.members
     → ((w : World) (context : Context) → IsWorld d w → context_at w caller ≡ Some context
     → (any : Option (ℤ × ℤ))
     → (calling_of operator).deed context.operands (call_by caller any w context) ≡ fails error)
-    → DoesBy operator caller trial shown (Err (Raises error)) d d
-raised_there operator caller trial shown d error steady runs so = record {
+    → DoesBy operator caller attempt shown (Err (Raises error)) d d
+raised_there operator caller attempt shown d error steady runs so = record {
   meets = λ w context at there. (
-    λ any. ap (deed_given_room trial.refused w) (so w context at there any),
+    λ any. ap (deed_given_room attempt.refused w) (so w context at there any),
     at,
   );
   steady = steady;
@@ -45,7 +45,7 @@ raised_there operator caller trial shown d error steady runs so = record {
   framed = λ framed. framed;
   same = λ w at. refl;
   held_up = λ reason bad. absurd (cc);
-  logs = logs-same 0 d.grants trial.slot;
+  logs = logs-same 0 d.grants attempt.slot;
   made = λ is reason bad. absurd (cc);
   leaves = λ is. refl;
 }

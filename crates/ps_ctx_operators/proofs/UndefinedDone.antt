@@ -8,7 +8,7 @@ use Rattle.ps_language.specs.Outcome.{Outcome, fails}
 use Rattle.ps_language.specs.Step.{deed_given_room}
 use Rattle.ps_language.specs.Value.{Value}
 use Rattle.ps_ops_state.specs.declared.breaks.Break.TheVariants.{Raises}
-use Rattle.ps_ops_state.specs.declared.lent.Trial.{Trial}
+use Rattle.ps_ops_state.specs.declared.lent.Attempt.{Attempt}
 use Rattle.ps_ops_state.proofs.Meeting.{keeps-same, logs-same}
 use Rattle.ps_step_outcome.specs.Turns.{calling_of, is_for_world}
 use Rattle.ps_ctx_table.specs.Desks.{Desk, IsSteady}
@@ -27,12 +27,12 @@ undefined_deed : (operator : Operator) → is_for_world operator ≡ false
     → (calling_of operator).deed ≡ (λ operands call. fails Undefined)
 undefined_deed operator is = without _ _ is
 
-pub undefined_does : (operator : Operator) (caller : ℕ) (trial : Trial) (shown : Option (ℤ × ℤ))
+pub undefined_does : (operator : Operator) (caller : ℕ) (attempt : Attempt) (shown : Option (ℤ × ℤ))
     (d : Desk) → IsSteady d → RunsAt caller d.members → is_for_world operator ≡ false
-    → DoesBy operator caller trial shown (Err (Raises Undefined)) d d
-undefined_does operator caller trial shown d steady runs is = record {
+    → DoesBy operator caller attempt shown (Err (Raises Undefined)) d d
+undefined_does operator caller attempt shown d steady runs is = record {
   meets = λ w context at there. (
-    λ any. ap (λ (does : Does). deed_given_room trial.refused w
+    λ any. ap (λ (does : Does). deed_given_room attempt.refused w
         (does context.operands (call_by caller any w context))) (undefined_deed operator is),
     at,
   );
@@ -44,7 +44,7 @@ undefined_does operator caller trial shown d steady runs is = record {
   framed = λ framed. framed;
   same = λ w at. refl;
   held_up = λ reason bad. absurd (cc);
-  logs = logs-same 0 d.grants trial.slot;
+  logs = logs-same 0 d.grants attempt.slot;
   made = λ made reason bad. absurd (cc);
   leaves = λ shows. refl;
 }

@@ -18,7 +18,7 @@ use Rattle.ps_mem.specs.Heap.{birth_at}
 use Rattle.ps_mem.specs.References.{StandsAs}
 use Rattle.ps_mem.proofs.KeepsLemmas.{birth_at-kept, stands-kept}
 use Rattle.ps_ops_state.specs.declared.breaks.Break.{Break}
-use Rattle.ps_ops_state.specs.declared.lent.Trial.{Trial}
+use Rattle.ps_ops_state.specs.declared.lent.Attempt.{Attempt}
 use Rattle.ps_ops_state.specs.Acts.{Acts, effect_in, lacks}
 use Rattle.ps_ops_state.specs.Lent.{Lent, scene_of, IsShown}
 use Rattle.ps_step_outcome.specs.Turns.{calling_of}
@@ -81,7 +81,7 @@ wait_stores caller store before scene call (c ∷ []) is = absurd (cc)
 wait_stores caller store before scene call (c ∷ l ∷ rest) is =
     given_stores caller store before scene call (as_condition c) (as_lock l) rest is
 
-module _ (caller : ℕ) (trial : Trial) (shown : Option (ℤ × ℤ)) (d : Desk) (steady : IsSteady d)
+module _ (caller : ℕ) (attempt : Attempt) (shown : Option (ℤ × ℤ)) (d : Desk) (steady : IsSteady d)
     (member : Member) (found : item_at d.members caller ≡ Some member)
     (runs : member.course ≡ Running) (new : Lent) where
   abbrev here : Context
@@ -96,10 +96,10 @@ module _ (caller : ℕ) (trial : Trial) (shown : Option (ℤ × ℤ)) (d : Desk)
   -- ---- it broke off
 
   pub unwaited : (why : Break)
-      → Acts wait_asked (wait_caller caller) trial (Err why) (lent_to d member.context) new
-      → DoesBy Wait caller trial shown (Err why) d (desk_unmade d caller member new)
+      → Acts wait_asked (wait_caller caller) attempt (Err why) (lent_to d member.context) new
+      → DoesBy Wait caller attempt shown (Err why) d (desk_unmade d caller member new)
   unwaited why acts =
-      broke_off Wait caller trial shown d steady member found runs wait_asked wait_few
+      broke_off Wait caller attempt shown d steady member found runs wait_asked wait_few
       (wait_caller caller) (wait_plain caller) wait_next (λ any. Unit {0})
       (λ any w scene says is. wait_stores caller w.store
       (scene_of (lent_to d member.context) w.store) scene (call any w) here.operands is)
@@ -111,7 +111,7 @@ module _ (caller : ℕ) (trial : Trial) (shown : Option (ℤ × ℤ)) (d : Desk)
   module _ (lock condition : ℕ)
       (stood : StandsAs d.heap LockKind lock 1 × StandsAs d.heap ConditionKind condition 1)
       (told : waited here.operands ≡ Some (birth_at d.heap lock, birth_at d.heap condition))
-      (acts : Acts wait_asked (wait_caller caller) trial (Ok tt) (lent_to d member.context) new)
+      (acts : Acts wait_asked (wait_caller caller) attempt (Ok tt) (lent_to d member.context) new)
     where
       abbrev pub waits_desk : Desk
       waits_desk = desk_unmade d caller (in_course (Waiting lock condition) member) new
@@ -153,22 +153,22 @@ module _ (caller : ℕ) (trial : Trial) (shown : Option (ℤ × ℤ)) (d : Desk)
             (Waiting lock condition) refl (with_machine caller w before) world)
 
         made : IsMade d caller member found runs new steady acts.keeps acts.stays acts.good w at
-            shown trial (wait_asked (scene_of (lent_to d member.context) w.store))
+            shown attempt (wait_asked (scene_of (lent_to d member.context) w.store))
             (wait_few (scene_of (lent_to d member.context) w.store))
             (effect_in (wait_caller caller) (lent_to d member.context) w.store)
         made =
             let l = lent_to d member.context in
             let effect = effect_in (wait_caller caller) l w.store in
             made_by d caller member found runs new steady acts.keeps acts.stays acts.good w at
-            shown trial (wait_asked (scene_of l w.store)) (wait_few (scene_of l w.store)) effect
-            (lacks trial.refused (scene_of l w.store) effect) refl (wait_plain caller l w.store)
+            shown attempt (wait_asked (scene_of l w.store)) (wait_few (scene_of l w.store)) effect
+            (lacks attempt.refused (scene_of l w.store) effect) refl (wait_plain caller l w.store)
             (acts.meets w.store (member_at (λ one. IsShown (lent_to d one.context) w.store)
             d.members caller member at.members found)).did
 
-        outcome_is : outcome_of Wait caller trial.refused w here shown
+        outcome_is : outcome_of Wait caller attempt.refused w here shown
             ≡ leaves (does turn_ends (with_machine caller w (waited_machine made.scene)))
         outcome_is =
-            ap (deed_given_room trial.refused w)
+            ap (deed_given_room attempt.refused w)
             (wait_deed (call shown w) here.operands
             ∙ (ap (λ e. after_part e (wait_next shown w)) (sym (part_is d caller member found runs
             new steady acts.keeps acts.stays acts.good w at shown (wait_caller caller)) ∙ made.is)
@@ -176,10 +176,10 @@ module _ (caller : ℕ) (trial : Trial) (shown : Option (ℤ × ℤ)) (d : Desk)
             ∙ ap (λ b. given_that (not b) VmError (leaves (does turn_ends
             (with_machine caller w (waited_machine made.scene))))) made.enough
 
-      pub waits : Calls Wait caller trial shown (Ok TurnEnds) d waits_desk
+      pub waits : Calls Wait caller attempt shown (Ok TurnEnds) d waits_desk
       waits =
           stops caller d steady member found runs new acts.keeps acts.stays acts.good
-          (Waiting lock condition) refl Wait trial shown held tt acts.logs
+          (Waiting lock condition) refl Wait attempt shown held tt acts.logs
           (λ w at. subst (λ (outcome : Outcome Deed). CallsTo (Ok TurnEnds)
           (after_deed (calling_of Wait) caller w outcome) w waits_desk) (sym (outcome_is w at))
           (waited_world w at (made w at).scene (made w at).world, refl))

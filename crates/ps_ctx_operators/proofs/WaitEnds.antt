@@ -4,7 +4,7 @@ use Rattle.ps_language.specs.declared.operators.Operator.{Operator}
 use Rattle.ps_language.specs.Effect.{Deed, waits as waits_on}
 use Rattle.ps_language.specs.Outcome.{Outcome, leaves}
 use Rattle.ps_language.specs.Step.{after_deed}
-use Rattle.ps_ops_state.specs.declared.lent.Trial.{Trial}
+use Rattle.ps_ops_state.specs.declared.lent.Attempt.{Attempt}
 use Rattle.ps_step_outcome.specs.Turns.{calling_of}
 use Rattle.ps_ctx_table.specs.declared.members.Course.TheVariants.{Again}
 use Rattle.ps_ctx_table.specs.declared.members.Member.{Member}
@@ -20,9 +20,9 @@ use Rattle.ps_ctx.specs.Calls.{AreFramedBut, CallsTo, Calls}
 use Rattle.ps_ctx.proofs.Calling.{none_left}
 use Rattle.ps_ctx_operators.specs.Waits.{WaitsBy}
 
-module _ (operator : Operator) (caller : ℕ) (trial : Trial) (shown : Option (ℤ × ℤ))
+module _ (operator : Operator) (caller : ℕ) (attempt : Attempt) (shown : Option (ℤ × ℤ))
     (old d : Desk) (member : Member) (found : item_at d.members caller ≡ Some member)
-    (waits : WaitsBy operator caller trial shown old d) where
+    (waits : WaitsBy operator caller attempt shown old d) where
   abbrev again : Member
   again = record member { course = Again }
 
@@ -46,7 +46,7 @@ module _ (operator : Operator) (caller : ℕ) (trial : Trial) (shown : Option (�
       subst IsSteady changed_is
       (changed_steady d caller again waits.steady (record { good = good.good; course = tt }))
 
-  pub waited : Calls operator caller trial shown (Ok TurnEnds) old again_desk
+  pub waited : Calls operator caller attempt shown (Ok TurnEnds) old again_desk
   waited = record {
     meets = λ w context at there.
         let to = waits.meets w context at there in

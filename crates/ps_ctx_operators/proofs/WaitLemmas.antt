@@ -15,7 +15,7 @@ use Rattle.ps_ops_operands.specs.declared.failure.NotMade.{NotMade as Reason}
 use Rattle.ps_ops_operands.specs.Changes.{values_in, KeepsLogsWithin}
 use Rattle.ps_ops_operands.proofs.Held.{rest_held}
 use Rattle.ps_ops_operands.proofs.Operands.{first_two_split}
-use Rattle.ps_ops_state.specs.declared.lent.Trial.{Trial}
+use Rattle.ps_ops_state.specs.declared.lent.Attempt.{Attempt}
 use Rattle.ps_ops_state.specs.Lent.{Lent, scene_of, IsShown}
 use Rattle.ps_ops_state.specs.Acts.{effect_in}
 use Rattle.ps_ops_state.proofs.Acting.{Wants}
@@ -72,11 +72,11 @@ module _ (l : Lent) (c w : Word) (two : Some (c, w) ≡ first_two_of l.operands)
             own,
           ) refl
 
-      module _ (known : StandsAs l.heap LockKind lock 1) (trial : Trial) where
+      module _ (known : StandsAs l.heap LockKind lock 1) (attempt : Attempt) where
         pub wait_wants : (grants : Grants) (reason : Reason)
-            → IsUnlogged 1 trial.slot l.grants grants reason → (store : Store)
+            → IsUnlogged 1 attempt.slot l.grants grants reason → (store : Store)
             → IsShown l store
-            → Wants (wait_caller caller) trial wait_asked l reason
+            → Wants (wait_caller caller) attempt wait_asked l reason
             (record l { grants = grants }) store
         wait_wants grants reason why store shown =
             let there = lock_shown l.heap lock known l.names store shown.shows in
@@ -84,17 +84,17 @@ module _ (l : Lent) (c w : Word) (two : Some (c, w) ≡ first_two_of l.operands)
               scene = _;
               output = [];
               is = wait_is store shown;
-              enough = lacks_nothing trial.refused store (freed store)
+              enough = lacks_nothing attempt.refused store (freed store)
                   (made_owned store (birth_at l.heap lock) there.0 there.1 None);
-              why = unlogged_reason trial.slot 1 (omega arith) l (record l { grants = grants })
+              why = unlogged_reason attempt.slot 1 (omega arith) l (record l { grants = grants })
                   reason why _ (omega arith);
             }
 
         pub wait_leaves : (new : Heap) (left : Grants)
             → ((names : List (List ℕ)) (s : Store) → Shows l.heap names s
             → Shows new names (with_owner s (birth_at l.heap lock) None))
-            → KeepsLogsWithin 1 l.grants left trial.slot → (store : Store) → IsShown l store
-            → LeavesStore (wait_caller caller) trial wait_asked l (drop 2 l.operands) new left
+            → KeepsLogsWithin 1 l.grants left attempt.slot → (store : Store) → IsShown l store
+            → LeavesStore (wait_caller caller) attempt wait_asked l (drop 2 l.operands) new left
             store
         wait_leaves new left shows logs store shown =
             let there = lock_shown l.heap lock known l.names store shown.shows in

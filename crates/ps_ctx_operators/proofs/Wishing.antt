@@ -12,7 +12,7 @@ use Rattle.ps_mem.specs.Meaning.{value_of}
 use Rattle.ps_mem.specs.Shows.{IsWithin}
 use Rattle.ps_ops_operands.proofs.Held.{rest_held}
 use Rattle.ps_ops_operands.proofs.Operands.{first_split}
-use Rattle.ps_ops_state.specs.declared.lent.Trial.{Trial}
+use Rattle.ps_ops_state.specs.declared.lent.Attempt.{Attempt}
 use Rattle.ps_ops_state.specs.Lent.{Lent, IsShown}
 use Rattle.ps_ops_state.specs.Acts.{Asked, effect_in}
 use Rattle.ps_ops_state.proofs.Direct.{LeavesWords}
@@ -26,10 +26,10 @@ module _ (l : Lent) (w : Word) (one : Some w ≡ first_of l.operands) (i : ℤ)
   wish_refused wrong store shown =
       rw (first_split l.operands w one, number (birth_at l.heap) l.names, wrong) refl
 
-  pub wish_taken : (int_le (negsuc 1) i && int_le i (pos 2)) ≡ true → (trial : Trial)
+  pub wish_taken : (int_le (negsuc 1) i && int_le i (pos 2)) ≡ true → (attempt : Attempt)
       (asks : Scene → Asked) (store : Store) → IsShown l store
-      → LeavesWords vmreclaim_caller trial asks l (drop 1 l.operands) store
-  wish_taken may trial asks store shown = record {
+      → LeavesWords vmreclaim_caller attempt asks l (drop 1 l.operands) store
+  wish_taken may attempt asks store shown = record {
     is = rw (first_split l.operands w one, number (birth_at l.heap) l.names, may) refl;
     within = rest_held (IsWithin (birth_at l.heap) l.names store) l.operands shown.operands 1;
   }

@@ -15,7 +15,7 @@ use Rattle.ps_ops_operands.specs.declared.failure.NotMade.{NotMade as Reason}
 use Rattle.ps_ops_operands.specs.Changes.{KeepsLogsWithin, most_records, spent}
 use Rattle.ps_ops_state.specs.declared.breaks.Break.{Break}
 use Rattle.ps_ops_state.specs.declared.breaks.Break.TheVariants.{Unwinds, Raises, NotMade}
-use Rattle.ps_ops_state.specs.declared.lent.Trial.{Trial}
+use Rattle.ps_ops_state.specs.declared.lent.Attempt.{Attempt}
 use Rattle.ps_step_outcome.specs.declared.turned.Turned.{Turned}
 use Rattle.ps_step_outcome.specs.declared.turned.Turned.TheVariants.{Goes, Calls as TurnedCalls}
 use Rattle.ps_step_outcome.specs.Turns.{calling_of}
@@ -50,11 +50,11 @@ outcome_of operator caller refused w context shown =
 
 -- For every world that the desk is of; the caller is still there, and runs. A vmstatus is always
 -- made, and one that acts leaves the memory as it was
-pub record DoesBy (operator : Operator) (caller : ℕ) (trial : Trial) (shown : Option (ℤ × ℤ))
+pub record DoesBy (operator : Operator) (caller : ℕ) (attempt : Attempt) (shown : Option (ℤ × ℤ))
     (result : Result Note Break) (old new : Desk) : Type 0 where
   pub meets : (w : World) (context : Context) → IsWorld old w
       → context_at w caller ≡ Some context
-      → ComesTo result shown (outcome_of operator caller trial.refused w context) w new
+      → ComesTo result shown (outcome_of operator caller attempt.refused w context) w new
   pub steady : IsSteady new
   pub runs : RunsAt caller new.members
   pub keeps : Keeps old.heap new.heap
@@ -64,9 +64,9 @@ pub record DoesBy (operator : Operator) (caller : ℕ) (trial : Trial) (shown : 
   pub same : (w : World) → IsWorld old w → OnErr result (IsSameDesk old new)
   pub held_up : (reason : Reason) → result ≡ Err (NotMade reason) → (w : World)
       (context : Context) → IsWorld old w → context_at w caller ≡ Some context
-      → IsHeldUpAs (call_wants (calling_of operator) caller trial.refused w context) trial.slot
+      → IsHeldUpAs (call_wants (calling_of operator) caller attempt.refused w context) attempt.slot
       new.heap new.grants reason
-  pub logs : KeepsLogsWithin (spent result most_records) old.grants new.grants trial.slot
+  pub logs : KeepsLogsWithin (spent result most_records) old.grants new.grants attempt.slot
   pub made : operator ≡ VmStatus → (reason : Reason) → result ≢ Err (NotMade reason)
   pub leaves : result ≡ Ok ShowsMemory → new.heap ≡ old.heap
 

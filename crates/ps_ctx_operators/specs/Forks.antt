@@ -9,7 +9,7 @@ use Rattle.ps_word.specs.declared.values.Part.{Part}
 use Rattle.ps_ops_control.specs.declared.frames.Frame.{Frame}
 use Rattle.ps_ops_control.specs.declared.frames.Frame.TheVariants.{Procedure}
 use Rattle.ps_ops_state.specs.declared.lent.Context.{Context as Begun}
-use Rattle.ps_ops_state.specs.declared.lent.Trial.{Trial}
+use Rattle.ps_ops_state.specs.declared.lent.Attempt.{Attempt}
 use Rattle.ps_ops_state.specs.Lent.{Lent, scene_of, around_of, IsShown, IsGood}
 use Rattle.ps_ops_state.specs.Acts.{nothing_asked, effect_in, Acts}
 use Rattle.ps_ctx_operators.specs.declared.forks.Unforked.{Unforked}
@@ -28,13 +28,13 @@ IsMaking (calls deed) = ⊥
 
 -- It acts by its row. Or stacks can't be had: nothing has changed, and a context would be made in a
 -- step that isn't refused
-abbrev pub Forks : (seat : Option ℕ) → Trial → Result Begun Unforked → (old new : Lent) → Type 0
-Forks seat trial (Ok begun) old new =
-    Acts nothing_asked (fork_caller seat) trial (Ok tt) old new
-Forks seat trial (Err (Breaks why)) old new =
-    Acts nothing_asked (fork_caller seat) trial (Err why) old new
-Forks seat trial (Err NoStacks) old new =
-    (new ≡ old) × (trial.refused ≡ false)
+abbrev pub Forks : (seat : Option ℕ) → Attempt → Result Begun Unforked → (old new : Lent) → Type 0
+Forks seat attempt (Ok begun) old new =
+    Acts nothing_asked (fork_caller seat) attempt (Ok tt) old new
+Forks seat attempt (Err (Breaks why)) old new =
+    Acts nothing_asked (fork_caller seat) attempt (Err why) old new
+Forks seat attempt (Err NoStacks) old new =
+    (new ≡ old) × (attempt.refused ≡ false)
     × ((store : Store) → IsShown old store → IsMaking (effect_in (fork_caller seat) old store))
 
 -- ---- the new context

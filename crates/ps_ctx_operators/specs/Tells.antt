@@ -6,7 +6,7 @@ use Rattle.ps_language.specs.Rows.{Row}
 use Rattle.ps_mem.specs.Keeps.{Keeps}
 use Rattle.ps_ops_operands.specs.Changes.{KeepsLogsWithin, most_records, spent}
 use Rattle.ps_ops_state.specs.declared.breaks.Break.{Break}
-use Rattle.ps_ops_state.specs.declared.lent.Trial.{Trial}
+use Rattle.ps_ops_state.specs.declared.lent.Attempt.{Attempt}
 use Rattle.ps_ops_state.specs.Lent.{Lent, scene_of, IsShown, IsGood}
 use Rattle.ps_ops_state.specs.Acts.{Asked, Stays, Meets, effect_in}
 
@@ -16,12 +16,12 @@ done (Ok told) = Ok tt
 done (Err why) = Err why
 
 -- as `Acts`, of the stores of which this holds
-pub record ActsWhere (Holds : Store → Type 0) (asks : Scene → Asked) (row : Row) (trial : Trial)
+pub record ActsWhere (Holds : Store → Type 0) (asks : Scene → Asked) (row : Row) (attempt : Attempt)
     (result : Result Unit Break) (old new : Lent) : Type 0 where
   pub meets : (store : Store) → IsShown old store → Holds store
-      → Meets asks (effect_in row old store) trial result (scene_of old store) old new
+      → Meets asks (effect_in row old store) attempt result (scene_of old store) old new
   pub good : IsGood new
   pub keeps : Keeps old.heap new.heap
   pub stays : Stays old new
-  pub logs : KeepsLogsWithin (spent result most_records) old.grants new.grants trial.slot
+  pub logs : KeepsLogsWithin (spent result most_records) old.grants new.grants attempt.slot
   pub framed : OnErr result (new.frames ≡ old.frames)

@@ -3,7 +3,8 @@
 ghost use Rattle.std.specs.Prelude.{ℤ, Option, Ok};
 ghost use Rattle.ps_language.specs.declared.operators.Operator.{Operator as AnOperator};
 ghost use Rattle.ps_mem.specs.Heap.{Heap, Grants};
-ghost use Rattle.ps_ops_state.specs.declared.lent.Trial.{Trial as ATrial};
+ghost use Rattle.ps_ops_state.specs.declared.lent.Attempt.{Attempt as AnAttempt};
+ghost use Rattle.ps_ops_state.specs.declared.lent.Shared.{Shared as TheShared};
 ghost use Rattle.ps_ctx_table.specs.Desks.{Desk};
 ghost use Rattle.ps_ctx.specs.Calls.{over, RunsAt, Calls};
 ghost use Rattle.ps_ctx_operators.specs.Waits.{WaitsBy};
@@ -15,10 +16,11 @@ use ps_ctx_table::members::Course;
 /// Ends a call whose caller must wait: it tries again, and its turn ends.
 pub(crate) fn wait(caller: u32, contexts: &mut Contexts) -> Note
     requires runs { RunsAt caller contexts.old.table }
-    ensures { (operator : AnOperator) (trial : ATrial) (shown : Option (ℤ × ℤ)) (before : Desk)
-        (heap : Heap) (grants : Grants)
-        → WaitsBy operator caller trial shown before (over heap grants contexts.old)
-        → Calls operator caller trial shown (Ok result) before (over heap grants contexts.new) }
+    ensures { (operator : AnOperator) (attempt : AnAttempt) (shown : Option (ℤ × ℤ)) (before : Desk)
+        (heap : Heap) (grants : Grants) (shared : TheShared)
+        → WaitsBy operator caller attempt shown before (over heap grants shared contexts.old)
+        → Calls operator caller attempt shown (Ok result) before
+        (over heap grants shared contexts.new) }
 {
     let member = contexts.table.get_mut(caller);
     member.course = Course::Again;

@@ -2,42 +2,41 @@
 
 ghost use Rattle.std.specs.Prelude.{◌≡◌, ◌<◌};
 ghost use Rattle.ps_ctx_table.specs.Desks.{IsSteady};
-ghost use Rattle.ps_ctx.specs.Calls.{over, RunsAt, Calls};
+ghost use Rattle.ps_ctx.specs.Calls.{over_of, Calls, RunsAt};
 ghost use Rattle.ps_ctx_operators.specs.Done.{DoesBy, IsAlone};
 
 use crate::callers::{current_context, give_way, new_condition, new_lock, vm_reclaim, vm_status};
 use crate::endings::end;
 use ps_ctx::notes::Note;
+use ps_ctx::worlds::Calling;
 use ps_ctx_table::contexts::Contexts;
 use ps_language::operators::Operator;
 use ps_mem::Memory;
 use ps_ops_operands::failure::NotMade;
 use ps_ops_state::breaks::Break;
-use ps_ops_state::lent::Trial;
+use ps_ops_state::lent::{Attempt, Runtime};
 
 /// Does such an operator, before its caller settles.
 fn do_alone<M: Memory>(
-    operator: Operator,
-    caller: u32,
+    calling: Calling,
     contexts: &mut Contexts,
-    memory: &mut M,
-    trial: Trial,
+    runtime: &mut Runtime<M>,
+    attempt: Attempt,
     shown: Option<(i32, i32)>,
 ) -> Result<Note, Break>
-    requires alone { IsAlone operator }
-    requires runs { RunsAt caller contexts.old.table }
-    requires steady { IsSteady
-        (over (M.heap memory.old) (M.grants memory.old) contexts.old) }
-    ensures { DoesBy operator caller trial shown result
-        (over (M.heap memory.old) (M.grants memory.old) contexts.old)
-        (over (M.heap memory.new) (M.grants memory.new) contexts.new) }
+    requires alone { IsAlone calling.operator }
+    requires runs { RunsAt calling.caller contexts.old.table }
+    requires steady { IsSteady (over_of M.heap M.grants runtime.old contexts.old) }
+    ensures { DoesBy calling.operator calling.caller attempt shown result
+        (over_of M.heap M.grants runtime.old contexts.old)
+        (over_of M.heap M.grants runtime.new contexts.new) }
 {
-    match operator {
-        Operator::CurrentContext => current_context(caller, contexts, memory),
-        Operator::VmStatus => vm_status(caller, shown, contexts, memory),
-        Operator::VmReclaim => vm_reclaim(caller, contexts, memory),
-        Operator::Lock => new_lock(caller, contexts, memory, trial),
-        Operator::Condition => new_condition(caller, contexts, memory, trial),
+    match calling.operator {
+        Operator::CurrentContext => current_context(calling.caller, contexts, runtime),
+        Operator::VmStatus => vm_status(calling.caller, shown, contexts, runtime),
+        Operator::VmReclaim => vm_reclaim(calling.caller, contexts, runtime),
+        Operator::Lock => new_lock(calling.caller, contexts, runtime, attempt),
+        Operator::Condition => new_condition(calling.caller, contexts, runtime, attempt),
         Operator::Yield => give_way(),
         _ => unreachable!(),
     }
@@ -51,22 +50,20 @@ fn do_alone<M: Memory>(
 /// the five records of the note. `Memory`: a growth for the object was refused, or the output has
 /// no room for the error's line.
 pub fn call_alone<M: Memory>(
-    operator: Operator,
-    caller: u32,
+    calling: Calling,
     contexts: &mut Contexts,
-    memory: &mut M,
-    trial: Trial,
+    runtime: &mut Runtime<M>,
+    attempt: Attempt,
     shown: Option<(i32, i32)>,
 ) -> Result<Note, NotMade>
-    requires alone { IsAlone operator }
-    requires runs { RunsAt caller contexts.old.table }
-    requires steady { IsSteady
-        (over (M.heap memory.old) (M.grants memory.old) contexts.old) }
-    ensures { Calls operator caller trial shown result
-        (over (M.heap memory.old) (M.grants memory.old) contexts.old)
-        (over (M.heap memory.new) (M.grants memory.new) contexts.new) }
+    requires alone { IsAlone calling.operator }
+    requires runs { RunsAt calling.caller contexts.old.table }
+    requires steady { IsSteady (over_of M.heap M.grants runtime.old contexts.old) }
+    ensures { Calls calling.operator calling.caller attempt shown result
+        (over_of M.heap M.grants runtime.old contexts.old)
+        (over_of M.heap M.grants runtime.new contexts.new) }
 {
-    let again = trial;
-    let done = do_alone(operator, caller, contexts, memory, trial, shown);
-    end(operator, done, caller, contexts, memory, again)
+    let same_attempt = attempt;
+    let done = do_alone(calling, contexts, runtime, attempt, shown);
+    end(calling, done, contexts, runtime, same_attempt)
 }

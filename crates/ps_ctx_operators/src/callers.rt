@@ -3,8 +3,8 @@
 
 ghost use Rattle.std.specs.Prelude.{◌≡◌, ℕ, ℤ, Option};
 ghost use Rattle.ps_ctx_table.specs.Desks.{Desk, IsSteady};
-ghost use Rattle.ps_ctx.specs.Calls.{over, RunsAt};
-ghost use Rattle.ps_ops_state.specs.declared.lent.Trial.{Trial as ATrial};
+ghost use Rattle.ps_ctx.specs.Calls.{over_of, RunsAt};
+ghost use Rattle.ps_ops_state.specs.declared.lent.Attempt.{Attempt as AnAttempt};
 ghost use Rattle.ps_ctx_operators.specs.Done.{DoesBy, noted};
 
 use crate::{identifiers, locks, statuses};
@@ -13,7 +13,7 @@ use ps_ctx_table::contexts::Contexts;
 use ps_language::operators::Operator;
 use ps_mem::Memory;
 use ps_ops_state::breaks::Break;
-use ps_ops_state::lent::Trial;
+use ps_ops_state::lent::{Attempt, Runtime};
 
 /// What an operator came to, with this note where it acted.
 pub(crate) fn noted(note: Note, outcome: Result<(), Break>) -> Result<Note, Break>
@@ -30,18 +30,17 @@ pub(crate) fn noted(note: Note, outcome: Result<(), Break>) -> Result<Note, Brea
 pub fn new_lock<M: Memory>(
     caller: u32,
     contexts: &mut Contexts,
-    memory: &mut M,
-    trial: Trial,
+    runtime: &mut Runtime<M>,
+    attempt: Attempt,
 ) -> Result<Note, Break>
     requires runs { RunsAt caller contexts.old.table }
-    requires steady { IsSteady
-        (over (M.heap memory.old) (M.grants memory.old) contexts.old) }
-    ensures { (shown : Option (ℤ × ℤ)) → DoesBy Operator.Lock caller trial shown result
-        (over (M.heap memory.old) (M.grants memory.old) contexts.old)
-        (over (M.heap memory.new) (M.grants memory.new) contexts.new) }
+    requires steady { IsSteady (over_of M.heap M.grants runtime.old contexts.old) }
+    ensures { (shown : Option (ℤ × ℤ)) → DoesBy Operator.Lock caller attempt shown result
+        (over_of M.heap M.grants runtime.old contexts.old)
+        (over_of M.heap M.grants runtime.new contexts.new) }
 {
     let member = contexts.table.get_mut(caller);
-    let outcome = locks::new_lock(&mut member.context, &mut contexts.shared, memory, trial);
+    let outcome = locks::new_lock(&mut member.context, runtime, attempt);
     noted(Note::Nothing, outcome)
 }
 
@@ -50,18 +49,17 @@ pub fn new_lock<M: Memory>(
 pub fn new_condition<M: Memory>(
     caller: u32,
     contexts: &mut Contexts,
-    memory: &mut M,
-    trial: Trial,
+    runtime: &mut Runtime<M>,
+    attempt: Attempt,
 ) -> Result<Note, Break>
     requires runs { RunsAt caller contexts.old.table }
-    requires steady { IsSteady
-        (over (M.heap memory.old) (M.grants memory.old) contexts.old) }
-    ensures { (shown : Option (ℤ × ℤ)) → DoesBy Operator.Condition caller trial shown result
-        (over (M.heap memory.old) (M.grants memory.old) contexts.old)
-        (over (M.heap memory.new) (M.grants memory.new) contexts.new) }
+    requires steady { IsSteady (over_of M.heap M.grants runtime.old contexts.old) }
+    ensures { (shown : Option (ℤ × ℤ)) → DoesBy Operator.Condition caller attempt shown result
+        (over_of M.heap M.grants runtime.old contexts.old)
+        (over_of M.heap M.grants runtime.new contexts.new) }
 {
     let member = contexts.table.get_mut(caller);
-    let outcome = locks::new_condition(&mut member.context, &mut contexts.shared, memory, trial);
+    let outcome = locks::new_condition(&mut member.context, runtime, attempt);
     noted(Note::Nothing, outcome)
 }
 
@@ -70,25 +68,19 @@ pub fn new_condition<M: Memory>(
 pub fn current_context<M: Memory>(
     caller: u32,
     contexts: &mut Contexts,
-    memory: &mut M,
+    runtime: &mut Runtime<M>,
 ) -> Result<Note, Break>
     requires runs { RunsAt caller contexts.old.table }
-    requires steady { IsSteady
-        (over (M.heap memory.old) (M.grants memory.old) contexts.old) }
-    ensures { (trial : ATrial) (shown : Option (ℤ × ℤ))
-        → DoesBy Operator.CurrentContext caller trial shown result
-        (over (M.heap memory.old) (M.grants memory.old) contexts.old)
-        (over (M.heap memory.new) (M.grants memory.new) contexts.new) }
+    requires steady { IsSteady (over_of M.heap M.grants runtime.old contexts.old) }
+    ensures { (attempt : AnAttempt) (shown : Option (ℤ × ℤ))
+        → DoesBy Operator.CurrentContext caller attempt shown result
+        (over_of M.heap M.grants runtime.old contexts.old)
+        (over_of M.heap M.grants runtime.new contexts.new) }
 {
     // no identifier that was made is above 2^31 - 1
     contexts.table.made();
     let member = contexts.table.get_mut(caller);
-    let outcome = identifiers::current_context(
-        caller,
-        &mut member.context,
-        &mut contexts.shared,
-        memory,
-    );
+    let outcome = identifiers::current_context(caller, &mut member.context, runtime);
     noted(Note::Nothing, outcome)
 }
 
@@ -97,18 +89,17 @@ pub fn current_context<M: Memory>(
 pub fn vm_reclaim<M: Memory>(
     caller: u32,
     contexts: &mut Contexts,
-    memory: &mut M,
+    runtime: &mut Runtime<M>,
 ) -> Result<Note, Break>
     requires runs { RunsAt caller contexts.old.table }
-    requires steady { IsSteady
-        (over (M.heap memory.old) (M.grants memory.old) contexts.old) }
-    ensures { (trial : ATrial) (shown : Option (ℤ × ℤ))
-        → DoesBy Operator.VmReclaim caller trial shown result
-        (over (M.heap memory.old) (M.grants memory.old) contexts.old)
-        (over (M.heap memory.new) (M.grants memory.new) contexts.new) }
+    requires steady { IsSteady (over_of M.heap M.grants runtime.old contexts.old) }
+    ensures { (attempt : AnAttempt) (shown : Option (ℤ × ℤ))
+        → DoesBy Operator.VmReclaim caller attempt shown result
+        (over_of M.heap M.grants runtime.old contexts.old)
+        (over_of M.heap M.grants runtime.new contexts.new) }
 {
     let member = contexts.table.get_mut(caller);
-    match statuses::vm_reclaim(&mut member.context, &mut contexts.shared, memory) {
+    match statuses::vm_reclaim(&mut member.context, runtime) {
         Ok(number) => Ok(Note::Wishes(number)),
         Err(why) => Err(why),
     }
@@ -120,17 +111,16 @@ pub fn vm_status<M: Memory>(
     caller: u32,
     shown: Option<(i32, i32)>,
     contexts: &mut Contexts,
-    memory: &mut M,
+    runtime: &mut Runtime<M>,
 ) -> Result<Note, Break>
     requires runs { RunsAt caller contexts.old.table }
-    requires steady { IsSteady
-        (over (M.heap memory.old) (M.grants memory.old) contexts.old) }
-    ensures { (trial : ATrial) → DoesBy Operator.VmStatus caller trial shown result
-        (over (M.heap memory.old) (M.grants memory.old) contexts.old)
-        (over (M.heap memory.new) (M.grants memory.new) contexts.new) }
+    requires steady { IsSteady (over_of M.heap M.grants runtime.old contexts.old) }
+    ensures { (attempt : AnAttempt) → DoesBy Operator.VmStatus caller attempt shown result
+        (over_of M.heap M.grants runtime.old contexts.old)
+        (over_of M.heap M.grants runtime.new contexts.new) }
 {
     let member = contexts.table.get_mut(caller);
-    match statuses::vm_status(shown, &mut member.context, &mut contexts.shared, memory) {
+    match statuses::vm_status(shown, &mut member.context, runtime) {
         Ok(()) => Ok(Note::ShowsMemory),
         Err(why) => Err(why),
     }
@@ -138,8 +128,9 @@ pub fn vm_status<M: Memory>(
 
 /// `yield`: the turn of the caller ends. No error.
 pub fn give_way() -> Result<Note, Break>
-    ensures { (caller : ℕ) (trial : ATrial) (shown : Option (ℤ × ℤ)) (desk : Desk) → IsSteady desk
-        → RunsAt caller desk.members → DoesBy Operator.Yield caller trial shown result desk desk }
+    ensures { (caller : ℕ) (attempt : AnAttempt) (shown : Option (ℤ × ℤ)) (desk : Desk) → IsSteady
+        desk
+        → RunsAt caller desk.members → DoesBy Operator.Yield caller attempt shown result desk desk }
 {
     Ok(Note::TurnEnds)
 }

@@ -3,8 +3,8 @@
 ghost use Rattle.std.specs.Prelude.{◌≡◌, ◌<◌, ℤ, Option, IsSome};
 ghost use Rattle.ps_ctx_table.specs.Desks.{IsSteady};
 ghost use Rattle.ps_ctx_table.specs.Seats.{item_at};
-ghost use Rattle.ps_ctx.specs.Calls.{over, RunsAt, Calls};
-ghost use Rattle.ps_ops_state.specs.declared.lent.Trial.{Trial as ATrial};
+ghost use Rattle.ps_ctx.specs.Calls.{over_of, Calls, RunsAt};
+ghost use Rattle.ps_ops_state.specs.declared.lent.Attempt.{Attempt as AnAttempt};
 ghost use Rattle.ps_ctx_operators.specs.Done.{DoesBy};
 ghost use Rattle.ps_ctx_operators.specs.Detached.{detached_members};
 
@@ -12,6 +12,7 @@ use crate::endings::end;
 use crate::identifiers;
 use crate::naming::named_operand;
 use ps_ctx::notes::Note;
+use ps_ctx::worlds::Calling;
 use ps_ctx_table::contexts::Contexts;
 use ps_ctx_table::members::Member;
 use ps_ctx_table::table::Table;
@@ -19,7 +20,7 @@ use ps_language::operators::Operator;
 use ps_mem::Memory;
 use ps_ops_operands::failure::NotMade;
 use ps_ops_state::breaks::Break;
-use ps_ops_state::lent::Trial;
+use ps_ops_state::lent::{Attempt, Runtime};
 
 /// The context of an identifier is detached from now on; one that is finished is gone.
 fn leave(identifier: u32, table: &mut Table<Member>)
@@ -39,22 +40,21 @@ fn leave(identifier: u32, table: &mut Table<Member>)
 pub fn detach<M: Memory>(
     caller: u32,
     contexts: &mut Contexts,
-    memory: &mut M,
+    runtime: &mut Runtime<M>,
 ) -> Result<Note, Break>
     requires runs { RunsAt caller contexts.old.table }
-    requires steady { IsSteady
-        (over (M.heap memory.old) (M.grants memory.old) contexts.old) }
-    ensures { (trial : ATrial) (shown : Option (ℤ × ℤ))
-        → DoesBy Operator.Detach caller trial shown result
-        (over (M.heap memory.old) (M.grants memory.old) contexts.old)
-        (over (M.heap memory.new) (M.grants memory.new) contexts.new) }
+    requires steady { IsSteady (over_of M.heap M.grants runtime.old contexts.old) }
+    ensures { (attempt : AnAttempt) (shown : Option (ℤ × ℤ))
+        → DoesBy Operator.Detach caller attempt shown result
+        (over_of M.heap M.grants runtime.old contexts.old)
+        (over_of M.heap M.grants runtime.new contexts.new) }
 {
     let identifier = match named_operand(caller, contexts) {
         Ok(identifier) => identifier,
         Err(error) => return Err(Break::Raises(error)),
     };
     let member = contexts.table.get_mut(caller);
-    match identifiers::detach(&mut member.context, &mut contexts.shared, memory) {
+    match identifiers::detach(&mut member.context, runtime) {
         Ok(()) => {
             leave(identifier, &mut contexts.table);
             Ok(Note::Nothing)
@@ -71,17 +71,20 @@ pub fn detach<M: Memory>(
 pub fn call_detach<M: Memory>(
     caller: u32,
     contexts: &mut Contexts,
-    memory: &mut M,
-    trial: Trial,
+    runtime: &mut Runtime<M>,
+    attempt: Attempt,
     shown: Option<(i32, i32)>,
 ) -> Result<Note, NotMade>
     requires runs { RunsAt caller contexts.old.table }
-    requires steady { IsSteady
-        (over (M.heap memory.old) (M.grants memory.old) contexts.old) }
-    ensures { Calls Operator.Detach caller trial shown result
-        (over (M.heap memory.old) (M.grants memory.old) contexts.old)
-        (over (M.heap memory.new) (M.grants memory.new) contexts.new) }
+    requires steady { IsSteady (over_of M.heap M.grants runtime.old contexts.old) }
+    ensures { Calls Operator.Detach caller attempt shown result
+        (over_of M.heap M.grants runtime.old contexts.old)
+        (over_of M.heap M.grants runtime.new contexts.new) }
 {
-    let done = detach(caller, contexts, memory);
-    end(Operator::Detach, done, caller, contexts, memory, trial)
+    let calling = Calling {
+        caller,
+        operator: Operator::Detach,
+    };
+    let done = detach(caller, contexts, runtime);
+    end(calling, done, contexts, runtime, attempt)
 }

@@ -3,17 +3,17 @@
 
 ghost use Rattle.std.specs.Prelude.{◌≡◌, ◌<◌, ℤ, Option, Err};
 ghost use Rattle.ps_ctx_table.specs.Desks.{Desk, IsSteady};
-ghost use Rattle.ps_ctx.specs.Calls.{over, RunsAt, Calls};
+ghost use Rattle.ps_ctx.specs.Calls.{over_of, Calls, RunsAt};
 ghost use Rattle.ps_ctx_operators.specs.Done.{DoesBy, own_of};
 
 use ps_ctx::notes::Note;
+use ps_ctx::worlds::Calling;
 use ps_ctx_table::contexts::Contexts;
 use ps_language::errors::ErrorName;
-use ps_language::operators::Operator;
 use ps_mem::Memory;
 use ps_ops_operands::failure::NotMade;
 use ps_ops_state::breaks::Break;
-use ps_ops_state::lent::Trial;
+use ps_ops_state::lent::{Attempt, Runtime};
 use ps_step_outcome::raises::raise_by;
 use ps_step_outcome::turned::Turned;
 
@@ -29,33 +29,31 @@ fn own_of(turned: Turned) -> Turned
 
 /// Notes the error of an operator, as `raise_by`; the caller settles.
 fn raise<M: Memory>(
-    operator: Operator,
+    calling: Calling,
     error: ErrorName,
-    caller: u32,
     contexts: &mut Contexts,
-    memory: &mut M,
-    trial: Trial,
+    runtime: &mut Runtime<M>,
+    attempt: Attempt,
 ) -> Result<Note, NotMade>
-    requires runs { RunsAt caller contexts.old.table }
-    requires steady { IsSteady
-        (over (M.heap memory.old) (M.grants memory.old) contexts.old) }
-    ensures { (shown : Option (ℤ × ℤ)) (before : Desk) → DoesBy operator caller trial shown
+    requires runs { RunsAt calling.caller contexts.old.table }
+    requires steady { IsSteady (over_of M.heap M.grants runtime.old contexts.old) }
+    ensures { (shown : Option (ℤ × ℤ)) (before : Desk) → DoesBy calling.operator calling.caller
+        attempt shown
         (Err (Break.Raises error)) before
-        (over (M.heap memory.old) (M.grants memory.old) contexts.old)
-        → Calls operator caller trial shown result before
-        (over (M.heap memory.new) (M.grants memory.new) contexts.new) }
+        (over_of M.heap M.grants runtime.old contexts.old)
+        → Calls calling.operator calling.caller attempt shown result before
+        (over_of M.heap M.grants runtime.new contexts.new) }
 {
-    let member = contexts.table.get_mut(caller);
+    let member = contexts.table.get_mut(calling.caller);
     match raise_by(
-        operator,
+        calling.operator,
         error,
         &mut member.context,
-        &mut contexts.shared,
-        memory,
-        trial,
+        runtime,
+        attempt,
     ) {
         Ok(turned) => {
-            contexts.settle(caller, own_of(turned));
+            contexts.settle(calling.caller, own_of(turned));
             Ok(Note::Nothing)
         }
         Err(reason) => Err(reason),
@@ -64,26 +62,25 @@ fn raise<M: Memory>(
 
 /// Ends a call that broke off. An unwinding, which no such operator begins, is no error.
 fn break_off<M: Memory>(
-    operator: Operator,
+    calling: Calling,
     why: Break,
-    caller: u32,
     contexts: &mut Contexts,
-    memory: &mut M,
-    trial: Trial,
+    runtime: &mut Runtime<M>,
+    attempt: Attempt,
 ) -> Result<Note, NotMade>
-    requires runs { RunsAt caller contexts.old.table }
-    requires steady { IsSteady
-        (over (M.heap memory.old) (M.grants memory.old) contexts.old) }
-    ensures { (shown : Option (ℤ × ℤ)) (before : Desk) → DoesBy operator caller trial shown
-        (Err why) before (over (M.heap memory.old) (M.grants memory.old) contexts.old)
-        → Calls operator caller trial shown result before
-        (over (M.heap memory.new) (M.grants memory.new) contexts.new) }
+    requires runs { RunsAt calling.caller contexts.old.table }
+    requires steady { IsSteady (over_of M.heap M.grants runtime.old contexts.old) }
+    ensures { (shown : Option (ℤ × ℤ)) (before : Desk) → DoesBy calling.operator calling.caller
+        attempt shown
+        (Err why) before (over_of M.heap M.grants runtime.old contexts.old)
+        → Calls calling.operator calling.caller attempt shown result before
+        (over_of M.heap M.grants runtime.new contexts.new) }
 {
     match why {
-        Break::Raises(error) => raise(operator, error, caller, contexts, memory, trial),
+        Break::Raises(error) => raise(calling, error, contexts, runtime, attempt),
         Break::NotMade(reason) => Err(reason),
         Break::Unwinds(_) => {
-            contexts.settle(caller, Turned::Goes);
+            contexts.settle(calling.caller, Turned::Goes);
             Ok(Note::Nothing)
         }
     }
@@ -94,26 +91,25 @@ fn break_off<M: Memory>(
 /// Not made: as what was done, or as the note of its error. `LogFull`, `LogClosed`: the log of the
 /// slot doesn't take five records. `Memory`: the output has no room for the error's line.
 pub fn end<M: Memory>(
-    operator: Operator,
+    calling: Calling,
     done: Result<Note, Break>,
-    caller: u32,
     contexts: &mut Contexts,
-    memory: &mut M,
-    trial: Trial,
+    runtime: &mut Runtime<M>,
+    attempt: Attempt,
 ) -> Result<Note, NotMade>
-    requires runs { RunsAt caller contexts.old.table }
-    requires steady { IsSteady
-        (over (M.heap memory.old) (M.grants memory.old) contexts.old) }
-    ensures { (shown : Option (ℤ × ℤ)) (before : Desk) → DoesBy operator caller trial shown
-        done before (over (M.heap memory.old) (M.grants memory.old) contexts.old)
-        → Calls operator caller trial shown result before
-        (over (M.heap memory.new) (M.grants memory.new) contexts.new) }
+    requires runs { RunsAt calling.caller contexts.old.table }
+    requires steady { IsSteady (over_of M.heap M.grants runtime.old contexts.old) }
+    ensures { (shown : Option (ℤ × ℤ)) (before : Desk) → DoesBy calling.operator calling.caller
+        attempt shown
+        done before (over_of M.heap M.grants runtime.old contexts.old)
+        → Calls calling.operator calling.caller attempt shown result before
+        (over_of M.heap M.grants runtime.new contexts.new) }
 {
     match done {
         Ok(note) => {
-            contexts.settle(caller, Turned::Goes);
+            contexts.settle(calling.caller, Turned::Goes);
             Ok(note)
         }
-        Err(why) => break_off(operator, why, caller, contexts, memory, trial),
+        Err(why) => break_off(calling, why, contexts, runtime, attempt),
     }
 }

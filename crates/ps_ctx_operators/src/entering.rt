@@ -2,17 +2,18 @@
 
 ghost use Rattle.std.specs.Prelude.{◌<◌};
 ghost use Rattle.ps_ctx_table.specs.Desks.{IsSteady};
-ghost use Rattle.ps_ctx.specs.Calls.{over, RunsAt, Calls};
+ghost use Rattle.ps_ctx.specs.Calls.{over_of, Calls, RunsAt};
 
 use crate::endings::end;
 use crate::monitors::{self, Entered};
 use ps_ctx::notes::Note;
+use ps_ctx::worlds::Calling;
 use ps_ctx_table::contexts::Contexts;
 use ps_ctx_table::members::Course;
 use ps_language::operators::Operator;
 use ps_mem::Memory;
 use ps_ops_operands::failure::NotMade;
-use ps_ops_state::lent::Trial;
+use ps_ops_state::lent::{Attempt, Runtime};
 
 /// A running context calls `monitor`, whose element is taken: a free lock is the caller's, and the
 /// procedure is entered. Where the lock is another's nothing has changed, the call is to be tried
@@ -26,40 +27,30 @@ use ps_ops_state::lent::Trial;
 pub fn call_monitor<M: Memory>(
     caller: u32,
     contexts: &mut Contexts,
-    memory: &mut M,
-    trial: Trial,
+    runtime: &mut Runtime<M>,
+    attempt: Attempt,
     shown: Option<(i32, i32)>,
 ) -> Result<Note, NotMade>
     requires runs { RunsAt caller contexts.old.table }
-    requires steady { IsSteady
-        (over (M.heap memory.old) (M.grants memory.old) contexts.old) }
-    ensures { Calls Operator.Monitor caller trial shown result
-        (over (M.heap memory.old) (M.grants memory.old) contexts.old)
-        (over (M.heap memory.new) (M.grants memory.new) contexts.new) }
+    requires steady { IsSteady (over_of M.heap M.grants runtime.old contexts.old) }
+    ensures { Calls Operator.Monitor caller attempt shown result
+        (over_of M.heap M.grants runtime.old contexts.old)
+        (over_of M.heap M.grants runtime.new contexts.new) }
 {
+    let calling = Calling {
+        caller,
+        operator: Operator::Monitor,
+    };
     // no identifier that was made is above 2^31 - 1
     contexts.table.made();
-    let again = trial;
+    let same_attempt = attempt;
     let member = contexts.table.get_mut(caller);
-    match monitors::monitor(
-        caller,
-        &mut member.context,
-        &mut contexts.shared,
-        memory,
-        trial,
-    ) {
+    match monitors::monitor(caller, &mut member.context, runtime, attempt) {
         Ok(Entered::Waits) => {
             member.course = Course::Again;
             Ok(Note::TurnEnds)
         }
-        Ok(Entered::Enters) => end(
-            Operator::Monitor,
-            Ok(Note::Nothing),
-            caller,
-            contexts,
-            memory,
-            again,
-        ),
-        Err(why) => end(Operator::Monitor, Err(why), caller, contexts, memory, again),
+        Ok(Entered::Enters) => end(calling, Ok(Note::Nothing), contexts, runtime, same_attempt),
+        Err(why) => end(calling, Err(why), contexts, runtime, same_attempt),
     }
 }

@@ -2,7 +2,7 @@
 
 ghost use Rattle.std.specs.Prelude.{◌≡◌, ◌<◌, ℤ, Option};
 ghost use Rattle.ps_ctx_table.specs.Desks.{IsSteady};
-ghost use Rattle.ps_ctx.specs.Calls.{over, RunsAt, Calls};
+ghost use Rattle.ps_ctx.specs.Calls.{over_of, Calls, RunsAt};
 ghost use Rattle.ps_ctx_operators.specs.Done.{DoesBy};
 ghost use Rattle.ps_ctx_operators.specs.Begun.{begun_member, break_of};
 
@@ -10,13 +10,14 @@ use crate::endings::end;
 use crate::forks;
 use crate::forks::Unforked;
 use ps_ctx::notes::Note;
+use ps_ctx::worlds::Calling;
 use ps_ctx_table::contexts::Contexts;
 use ps_ctx_table::members::{Course, Member};
 use ps_language::operators::Operator;
 use ps_mem::Memory;
 use ps_ops_operands::failure::NotMade;
 use ps_ops_state::breaks::Break;
-use ps_ops_state::lent::{Context, Trial};
+use ps_ops_state::lent::{Attempt, Context, Runtime};
 use std::alloc::Global;
 
 /// A context as it begins: it runs, or is finished at once where it has no frame.
@@ -56,26 +57,18 @@ pub fn fork<M: Memory>(
     caller: u32,
     alloc: Global,
     contexts: &mut Contexts,
-    memory: &mut M,
-    trial: Trial,
+    runtime: &mut Runtime<M>,
+    attempt: Attempt,
 ) -> Result<Note, Break>
     requires runs { RunsAt caller contexts.old.table }
-    requires steady { IsSteady
-        (over (M.heap memory.old) (M.grants memory.old) contexts.old) }
-    ensures { (shown : Option (ℤ × ℤ)) → DoesBy Operator.Fork caller trial shown result
-        (over (M.heap memory.old) (M.grants memory.old) contexts.old)
-        (over (M.heap memory.new) (M.grants memory.new) contexts.new) }
+    requires steady { IsSteady (over_of M.heap M.grants runtime.old contexts.old) }
+    ensures { (shown : Option (ℤ × ℤ)) → DoesBy Operator.Fork caller attempt shown result
+        (over_of M.heap M.grants runtime.old contexts.old)
+        (over_of M.heap M.grants runtime.new contexts.new) }
 {
     let seat = contexts.seat();
     let member = contexts.table.get_mut(caller);
-    match forks::fork(
-        seat,
-        alloc,
-        &mut member.context,
-        &mut contexts.shared,
-        memory,
-        trial,
-    ) {
+    match forks::fork(seat, alloc, &mut member.context, runtime, attempt) {
         Ok(begun) => {
             // without a seat it raised `limitcheck`
             if seat.is_some() {
@@ -98,18 +91,21 @@ pub fn call_fork<M: Memory>(
     caller: u32,
     alloc: Global,
     contexts: &mut Contexts,
-    memory: &mut M,
-    trial: Trial,
+    runtime: &mut Runtime<M>,
+    attempt: Attempt,
     shown: Option<(i32, i32)>,
 ) -> Result<Note, NotMade>
     requires runs { RunsAt caller contexts.old.table }
-    requires steady { IsSteady
-        (over (M.heap memory.old) (M.grants memory.old) contexts.old) }
-    ensures { Calls Operator.Fork caller trial shown result
-        (over (M.heap memory.old) (M.grants memory.old) contexts.old)
-        (over (M.heap memory.new) (M.grants memory.new) contexts.new) }
+    requires steady { IsSteady (over_of M.heap M.grants runtime.old contexts.old) }
+    ensures { Calls Operator.Fork caller attempt shown result
+        (over_of M.heap M.grants runtime.old contexts.old)
+        (over_of M.heap M.grants runtime.new contexts.new) }
 {
-    let again = trial;
-    let done = fork(caller, alloc, contexts, memory, trial);
-    end(Operator::Fork, done, caller, contexts, memory, again)
+    let calling = Calling {
+        caller,
+        operator: Operator::Fork,
+    };
+    let same_attempt = attempt;
+    let done = fork(caller, alloc, contexts, runtime, attempt);
+    end(calling, done, contexts, runtime, same_attempt)
 }

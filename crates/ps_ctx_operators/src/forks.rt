@@ -4,7 +4,7 @@ ghost use Rattle.std.specs.Prelude.{◌≡◌, ◌+◌, ◌<◌, ◌≤◌, ◌^
 ghost use Rattle.std.specs.Prelude.{IfOk, length, take, drop};
 ghost use Rattle.std.specs.Option.{ForSome};
 ghost use Rattle.ps_ops_state.specs.Acts.{nothing_asked};
-ghost use Rattle.ps_ops_state.specs.Lent.{lent, IsGood};
+ghost use Rattle.ps_ops_state.specs.Lent.{lent_of, IsGood};
 ghost use Rattle.ps_ctx_operators.specs.Forks.{procedure_frames, Forks, IsForked};
 ghost use Rattle.ps_ctx_operators.specs.Rows as rows;
 
@@ -19,7 +19,7 @@ use ps_ops_operands::permits::granted;
 use ps_ops_operands::stack_operators::mark_depth;
 use ps_ops_operands::{Operands, plain};
 use ps_ops_state::breaks::Break;
-use ps_ops_state::lent::{Context, Dictionaries, Shared, Trial};
+use ps_ops_state::lent::{Attempt, Context, Dictionaries, Runtime};
 use ps_word::values::Part;
 use std::alloc::{AllocError, Global};
 use thiserror::Error;
@@ -90,19 +90,17 @@ pub fn fork<M: Memory>(
     seat: Option<u32>,
     alloc: Global,
     context: &mut Context,
-    shared: &mut Shared,
-    memory: &mut M,
-    trial: Trial,
+    runtime: &mut Runtime<M>,
+    attempt: Attempt,
 ) -> Result<Context, Unforked>
     requires seat { ForSome seat (λ identifier. identifier < 2 ^ 31) }
-    requires good { IsGood
-        (lent (M.heap memory.old) (M.grants memory.old) context.old shared.old) }
-    ensures forks { Forks seat trial result
-        (lent (M.heap memory.old) (M.grants memory.old) context.old shared.old)
-        (lent (M.heap memory.new) (M.grants memory.new) context.new shared.new) }
+    requires good { IsGood (lent_of M.heap M.grants context.old runtime.old) }
+    ensures forks { Forks seat attempt result
+        (lent_of M.heap M.grants context.old runtime.old)
+        (lent_of M.heap M.grants context.new runtime.new) }
     ensures forked { IfOk result (λ begun. IsForked
-        (lent (M.heap memory.old) (M.grants memory.old) context.old shared.old)
-        (lent (M.heap memory.new) (M.grants memory.new) begun shared.new)) }
+        (lent_of M.heap M.grants context.old runtime.old)
+        (lent_of M.heap M.grants begun runtime.new)) }
 {
     let Some(top) = context.operands.top() else {
         return Err(Unforked::Breaks(Break::Raises(ErrorName::StackUnderflow)));
@@ -119,16 +117,16 @@ pub fn fork<M: Memory>(
     let Some(identifier) = seat else {
         return Err(Unforked::Breaks(Break::Raises(ErrorName::LimitCheck)));
     };
-    if trial.refused {
+    if attempt.refused {
         return Err(Unforked::Breaks(Break::Raises(ErrorName::VmError)));
     }
     let Ok(mut begun) = empty_context(alloc) else {
         return Err(Unforked::NoStacks);
     };
-    if let Err(reason) = granted(memory, ERROR_WORDS, 1) {
+    if let Err(reason) = granted(&mut runtime.memory, ERROR_WORDS, 1) {
         return Err(Unforked::Breaks(Break::NotMade(reason)));
     }
-    begun.error_dictionary = make_error_dictionary(memory);
+    begun.error_dictionary = make_error_dictionary(&mut runtime.memory);
     context.operands.discard(1);
     begin(&mut begun, context, depth - 1, body);
     context

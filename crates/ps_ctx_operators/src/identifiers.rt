@@ -5,7 +5,7 @@ ghost use Rattle.ps_language.specs.Contexts as language;
 ghost use Rattle.ps_ops_operands.specs.Does.{Does, Reads};
 ghost use Rattle.ps_ops_operands.specs.Kept.{AreFrom};
 ghost use Rattle.ps_ops_state.specs.Acts.{Acts, nothing_asked};
-ghost use Rattle.ps_ops_state.specs.Lent.{lent, IsGood};
+ghost use Rattle.ps_ops_state.specs.Lent.{lent_of, IsGood};
 ghost use Rattle.ps_ctx_operators.specs.Rows as rows;
 
 use ps_language::errors::ErrorName;
@@ -14,7 +14,7 @@ use ps_ops_operands::readers::integer_of;
 use ps_ops_operands::stack_operators::push;
 use ps_ops_operands::{Operands, plain};
 use ps_ops_state::breaks::{Break, made};
-use ps_ops_state::lent::{Context, Shared, Trial};
+use ps_ops_state::lent::{Attempt, Context, Runtime};
 
 /// Pushes an identifier.
 #[tactic(auto, using(ps_ops_operands::proofs::Sources::sources))]
@@ -30,16 +30,14 @@ fn push_identifier(operands: &mut Operands, caller: u32) -> Result<(), ErrorName
 pub fn current_context<M: Memory>(
     caller: u32,
     context: &mut Context,
-    shared: &mut Shared,
-    memory: &mut M,
+    runtime: &mut Runtime<M>,
 ) -> Result<(), Break>
     requires caller { caller < 2 ^ 31 }
-    requires good { IsGood
-        (lent (M.heap memory.old) (M.grants memory.old) context.old shared.old) }
-    ensures acts { (trial : Trial)
-        → Acts nothing_asked (rows.currentcontext_caller caller) trial result
-        (lent (M.heap memory.old) (M.grants memory.old) context.old shared.old)
-        (lent (M.heap memory.new) (M.grants memory.new) context.new shared.new) }
+    requires good { IsGood (lent_of M.heap M.grants context.old runtime.old) }
+    ensures acts { (attempt : Attempt)
+        → Acts nothing_asked (rows.currentcontext_caller caller) attempt result
+        (lent_of M.heap M.grants context.old runtime.old)
+        (lent_of M.heap M.grants context.new runtime.new) }
 {
     made(push_identifier(&mut context.operands, caller))
 }
@@ -84,16 +82,11 @@ fn take_identifier(operands: &mut Operands) -> Result<(), ErrorName>
 
 /// `i detach`, of a context that there is: its identifier is taken off. Raises `stackunderflow` and
 /// `typecheck`.
-pub fn detach<M: Memory>(
-    context: &mut Context,
-    shared: &mut Shared,
-    memory: &mut M,
-) -> Result<(), Break>
-    requires good { IsGood
-        (lent (M.heap memory.old) (M.grants memory.old) context.old shared.old) }
-    ensures acts { (trial : Trial) → Acts nothing_asked rows.detach_caller trial result
-        (lent (M.heap memory.old) (M.grants memory.old) context.old shared.old)
-        (lent (M.heap memory.new) (M.grants memory.new) context.new shared.new) }
+pub fn detach<M: Memory>(context: &mut Context, runtime: &mut Runtime<M>) -> Result<(), Break>
+    requires good { IsGood (lent_of M.heap M.grants context.old runtime.old) }
+    ensures acts { (attempt : Attempt) → Acts nothing_asked rows.detach_caller attempt result
+        (lent_of M.heap M.grants context.old runtime.old)
+        (lent_of M.heap M.grants context.new runtime.new) }
 {
     made(take_identifier(&mut context.operands))
 }

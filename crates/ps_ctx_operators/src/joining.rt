@@ -2,8 +2,8 @@
 
 ghost use Rattle.std.specs.Prelude.{◌≡◌, ◌<◌, ℤ, Option, Ok};
 ghost use Rattle.ps_ctx_table.specs.Desks.{IsSteady};
-ghost use Rattle.ps_ctx.specs.Calls.{over, RunsAt, Calls};
-ghost use Rattle.ps_ops_state.specs.declared.lent.Trial.{Trial as ATrial};
+ghost use Rattle.ps_ctx.specs.Calls.{over_of, Calls, RunsAt};
+ghost use Rattle.ps_ops_state.specs.declared.lent.Attempt.{Attempt as AnAttempt};
 ghost use Rattle.ps_ctx_operators.specs.Done.{DoesBy};
 ghost use Rattle.ps_ctx_operators.specs.Joined.{HandsOver, Finds};
 ghost use Rattle.ps_ctx_operators.specs.Named.{Names};
@@ -13,13 +13,14 @@ use crate::endings::end;
 use crate::joins;
 use crate::naming::named_operand;
 use ps_ctx::notes::Note;
+use ps_ctx::worlds::Calling;
 use ps_ctx_table::contexts::Contexts;
 use ps_language::errors::ErrorName;
 use ps_language::operators::Operator;
 use ps_mem::Memory;
 use ps_ops_operands::failure::NotMade;
 use ps_ops_state::breaks::Break;
-use ps_ops_state::lent::Trial;
+use ps_ops_state::lent::{Attempt, Runtime};
 use ps_stacks::OPERAND_LIMIT;
 
 /// What `join` finds of the context that it names.
@@ -74,27 +75,21 @@ fn take<M: Memory>(
     identifier: u32,
     caller: u32,
     contexts: &mut Contexts,
-    memory: &mut M,
+    runtime: &mut Runtime<M>,
 ) -> Result<Note, Break>
     requires hands { HandsOver caller identifier contexts.old.table }
     requires runs { RunsAt caller contexts.old.table }
-    requires steady { IsSteady
-        (over (M.heap memory.old) (M.grants memory.old) contexts.old) }
-    ensures { (trial : ATrial) (shown : Option (ℤ × ℤ))
-        → DoesBy Operator.Join caller trial shown result
-        (over (M.heap memory.old) (M.grants memory.old) contexts.old)
-        (over (M.heap memory.new) (M.grants memory.new) contexts.new) }
+    requires steady { IsSteady (over_of M.heap M.grants runtime.old contexts.old) }
+    ensures { (attempt : AnAttempt) (shown : Option (ℤ × ℤ))
+        → DoesBy Operator.Join caller attempt shown result
+        (over_of M.heap M.grants runtime.old contexts.old)
+        (over_of M.heap M.grants runtime.new contexts.new) }
 {
     let Some(other) = contexts.table.remove(identifier) else {
         unreachable!()
     };
     let member = contexts.table.get_mut(caller);
-    match joins::join(
-        &other.context.operands,
-        &mut member.context,
-        &mut contexts.shared,
-        memory,
-    ) {
+    match joins::join(&other.context.operands, &mut member.context, runtime) {
         Ok(()) => Ok(Note::Nothing),
         // of no world: their room was tested
         Err(why) => Err(why),
@@ -112,28 +107,31 @@ fn take<M: Memory>(
 pub fn call_join<M: Memory>(
     caller: u32,
     contexts: &mut Contexts,
-    memory: &mut M,
-    trial: Trial,
+    runtime: &mut Runtime<M>,
+    attempt: Attempt,
     shown: Option<(i32, i32)>,
 ) -> Result<Note, NotMade>
     requires runs { RunsAt caller contexts.old.table }
-    requires steady { IsSteady
-        (over (M.heap memory.old) (M.grants memory.old) contexts.old) }
-    ensures { Calls Operator.Join caller trial shown result
-        (over (M.heap memory.old) (M.grants memory.old) contexts.old)
-        (over (M.heap memory.new) (M.grants memory.new) contexts.new) }
+    requires steady { IsSteady (over_of M.heap M.grants runtime.old contexts.old) }
+    ensures { Calls Operator.Join caller attempt shown result
+        (over_of M.heap M.grants runtime.old contexts.old)
+        (over_of M.heap M.grants runtime.new contexts.new) }
 {
+    let calling = Calling {
+        caller,
+        operator: Operator::Join,
+    };
     match find(caller, contexts) {
         Ok(found) => match found {
             Found::Unfinished => Ok(wait(caller, contexts)),
             Found::Finished(identifier) => {
-                let done = take(identifier, caller, contexts, memory);
-                end(Operator::Join, done, caller, contexts, memory, trial)
+                let done = take(identifier, caller, contexts, runtime);
+                end(calling, done, contexts, runtime, attempt)
             }
         },
         Err(error) => {
             let done = Err(Break::Raises(error));
-            end(Operator::Join, done, caller, contexts, memory, trial)
+            end(calling, done, contexts, runtime, attempt)
         }
     }
 }

@@ -7,7 +7,7 @@ ghost use Rattle.ps_ops_operands.specs.Does.{DoesAs};
 ghost use Rattle.ps_ops_operands.specs.Kept.{AreFrom};
 ghost use Rattle.ps_ops_operands.specs.Changes.{values_in};
 ghost use Rattle.ps_ops_state.specs.Acts.{nothing_asked};
-ghost use Rattle.ps_ops_state.specs.Lent.{lent, IsGood};
+ghost use Rattle.ps_ops_state.specs.Lent.{lent_of, IsGood};
 ghost use Rattle.ps_ctx_operators.specs.Tells.{ActsWhere};
 ghost use Rattle.ps_ctx_operators.specs.Rows as rows;
 
@@ -17,7 +17,7 @@ use ps_mem::Memory;
 use ps_ops_operands::readers::integer_of;
 use ps_ops_operands::{Operands, plain};
 use ps_ops_state::breaks::{Break, made};
-use ps_ops_state::lent::{Context, Shared, Trial};
+use ps_ops_state::lent::{Attempt, Context, Runtime};
 use ps_stacks::OPERAND_LIMIT;
 
 /// Puts a mark and these operands in the place of an identifier. Raises `stackunderflow`,
@@ -47,18 +47,18 @@ fn take_operands(operands: &mut Operands, taken: &Operands) -> Result<(), ErrorN
 pub fn join<M: Memory>(
     taken: &Operands,
     context: &mut Context,
-    shared: &mut Shared,
-    memory: &mut M,
+    runtime: &mut Runtime<M>,
 ) -> Result<(), Break>
-    requires taken { AreValues (M.heap memory.old) taken.now }
-    requires good { IsGood
-        (lent (M.heap memory.old) (M.grants memory.old) context.old shared.old) }
+    requires taken { AreValues (M.heap runtime.old.memory) taken.now }
+    requires good { IsGood (lent_of M.heap M.grants context.old runtime.old) }
     // Of each store in which these operands are too.
-    ensures acts { (trial : Trial)
-        → ActsWhere (λ store. AreWithin (M.heap memory.old) shared.old.names store taken.now)
-        nothing_asked (rows.join_caller (values_in (M.heap memory.old) shared.old.names taken.now))
-        trial result (lent (M.heap memory.old) (M.grants memory.old) context.old shared.old)
-        (lent (M.heap memory.new) (M.grants memory.new) context.new shared.new) }
+    ensures acts { (attempt : Attempt)
+        → ActsWhere (λ store. AreWithin (M.heap runtime.old.memory) runtime.old.shared.names store
+        taken.now)
+        nothing_asked (rows.join_caller
+        (values_in (M.heap runtime.old.memory) runtime.old.shared.names taken.now))
+        attempt result (lent_of M.heap M.grants context.old runtime.old)
+        (lent_of M.heap M.grants context.new runtime.new) }
 {
     made(take_operands(&mut context.operands, taken))
 }

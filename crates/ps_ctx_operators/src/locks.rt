@@ -13,7 +13,7 @@ ghost use Rattle.ps_mem.specs.References.{StandsAs};
 ghost use Rattle.ps_mem.specs.Shows.{IsReady, IsSound, IsValue, IsWithin, Shows};
 ghost use Rattle.ps_ops_operands.specs.Changes.{KeepsLogsWithin, Makes};
 ghost use Rattle.ps_ops_state.specs.Acts.{Acts, nothing_asked};
-ghost use Rattle.ps_ops_state.specs.Lent.{lent, IsGood};
+ghost use Rattle.ps_ops_state.specs.Lent.{lent_of, IsGood};
 ghost use Rattle.ps_ctx_operators.specs.Rows as rows;
 ghost use Rattle.ps_ctx_operators.specs.Singles as singles;
 
@@ -25,7 +25,7 @@ use ps_ops_operands::Operands;
 use ps_ops_operands::failure::Failure;
 use ps_ops_operands::permits::granted;
 use ps_ops_state::breaks::{Break, tried};
-use ps_ops_state::lent::{Context, Shared, Trial};
+use ps_ops_state::lent::{Attempt, Context, Runtime};
 use ps_word::values::Content;
 use ps_word::words::Word;
 
@@ -181,22 +181,21 @@ fn push_single<M: Memory>(
 /// `NeedSpace`: its 3 words or its birth number have no room. `Memory`: a growth was refused.
 pub fn new_lock<M: Memory>(
     context: &mut Context,
-    shared: &mut Shared,
-    memory: &mut M,
-    trial: Trial,
+    runtime: &mut Runtime<M>,
+    attempt: Attempt,
 ) -> Result<(), Break>
-    requires good { IsGood
-        (lent (M.heap memory.old) (M.grants memory.old) context.old shared.old) }
-    ensures acts { Acts nothing_asked (rows.new_caller (singles.object_of Single.Lock)) trial result
-        (lent (M.heap memory.old) (M.grants memory.old) context.old shared.old)
-        (lent (M.heap memory.new) (M.grants memory.new) context.new shared.new) }
+    requires good { IsGood (lent_of M.heap M.grants context.old runtime.old) }
+    ensures acts { Acts nothing_asked (rows.new_caller (singles.object_of Single.Lock)) attempt
+        result
+        (lent_of M.heap M.grants context.old runtime.old)
+        (lent_of M.heap M.grants context.new runtime.new) }
 {
     tried(push_single(
         Single::Lock,
         &mut context.operands,
-        memory,
-        trial.slot,
-        trial.refused,
+        &mut runtime.memory,
+        attempt.slot,
+        attempt.refused,
     ))
 }
 
@@ -204,21 +203,19 @@ pub fn new_lock<M: Memory>(
 /// `NeedSpace`: its 3 words or its birth number have no room. `Memory`: a growth was refused.
 pub fn new_condition<M: Memory>(
     context: &mut Context,
-    shared: &mut Shared,
-    memory: &mut M,
-    trial: Trial,
+    runtime: &mut Runtime<M>,
+    attempt: Attempt,
 ) -> Result<(), Break>
-    requires good { IsGood
-        (lent (M.heap memory.old) (M.grants memory.old) context.old shared.old) }
-    ensures acts { Acts nothing_asked (rows.new_caller (singles.object_of Single.Condition)) trial
-        result (lent (M.heap memory.old) (M.grants memory.old) context.old shared.old)
-        (lent (M.heap memory.new) (M.grants memory.new) context.new shared.new) }
+    requires good { IsGood (lent_of M.heap M.grants context.old runtime.old) }
+    ensures acts { Acts nothing_asked (rows.new_caller (singles.object_of Single.Condition)) attempt
+        result (lent_of M.heap M.grants context.old runtime.old)
+        (lent_of M.heap M.grants context.new runtime.new) }
 {
     tried(push_single(
         Single::Condition,
         &mut context.operands,
-        memory,
-        trial.slot,
-        trial.refused,
+        &mut runtime.memory,
+        attempt.slot,
+        attempt.refused,
     ))
 }

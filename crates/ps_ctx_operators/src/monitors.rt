@@ -7,7 +7,7 @@ ghost use Rattle.ps_language.specs.Value.{Store};
 ghost use Rattle.ps_mem.specs.Meaning.{value_of};
 ghost use Rattle.ps_mem.specs.References.{StandsAs};
 ghost use Rattle.ps_ops_state.specs.Acts.{Acts, nothing_asked};
-ghost use Rattle.ps_ops_state.specs.Lent.{lent, scene_of, IsGood, IsShown};
+ghost use Rattle.ps_ops_state.specs.Lent.{lent_of, scene_of, IsGood, IsShown};
 ghost use Rattle.ps_ctx_operators.specs.Tells.{done};
 ghost use Rattle.ps_ctx_operators.specs.Monitors.{monitored, monitored_count, waits_by};
 ghost use Rattle.ps_ctx_operators.specs.Rows as rows;
@@ -21,7 +21,7 @@ use ps_ops_control::frames::{Frame, Frames, push_frame};
 use ps_ops_control::readers::procedure_of;
 use ps_ops_operands::access::is_executable;
 use ps_ops_state::breaks::Break;
-use ps_ops_state::lent::{Context, Shared, Trial};
+use ps_ops_state::lent::{Attempt, Context, Runtime};
 use ps_stacks::FRAME_LIMIT;
 use ps_step_outcome::breaks::permit_records;
 use ps_word::values::Part;
@@ -29,21 +29,16 @@ use ps_word::values::Part;
 // ---- conditions
 
 /// `C notify`: the address of the condition. Raises `stackunderflow` and `typecheck`.
-pub fn notify<M: Memory>(
-    context: &mut Context,
-    shared: &mut Shared,
-    memory: &mut M,
-) -> Result<u32, Break>
-    requires good { IsGood
-        (lent (M.heap memory.old) (M.grants memory.old) context.old shared.old) }
-    ensures acts { (trial : Trial) → Acts nothing_asked rows.notify_caller trial (done result)
-        (lent (M.heap memory.old) (M.grants memory.old) context.old shared.old)
-        (lent (M.heap memory.new) (M.grants memory.new) context.new shared.new) }
+pub fn notify<M: Memory>(context: &mut Context, runtime: &mut Runtime<M>) -> Result<u32, Break>
+    requires good { IsGood (lent_of M.heap M.grants context.old runtime.old) }
+    ensures acts { (attempt : Attempt) → Acts nothing_asked rows.notify_caller attempt (done result)
+        (lent_of M.heap M.grants context.old runtime.old)
+        (lent_of M.heap M.grants context.new runtime.new) }
     ensures condition { (births : ℕ → ℕ) (names : List (List ℕ)) → IfOk result (λ condition.
         rows.notified_condition (map (value_of births names) context.old.operands)
         ≡ Some (births condition)) }
     ensures stands { IfOk result (λ condition.
-        StandsAs (M.heap memory.new) Kind.Condition condition 1) }
+        StandsAs (M.heap runtime.new.memory) Kind.Condition condition 1) }
 {
     let Some(top) = context.operands.top() else {
         return Err(Break::Raises(ErrorName::StackUnderflow));
@@ -69,22 +64,20 @@ pub struct Waited {
 pub fn wait<M: Memory>(
     caller: u32,
     context: &mut Context,
-    shared: &mut Shared,
-    memory: &mut M,
-    trial: Trial,
+    runtime: &mut Runtime<M>,
+    attempt: Attempt,
 ) -> Result<Waited, Break>
     requires caller { 1 ≤ caller }
-    requires good { IsGood
-        (lent (M.heap memory.old) (M.grants memory.old) context.old shared.old) }
-    ensures acts { Acts rows.wait_asked (rows.wait_caller caller) trial (done result)
-        (lent (M.heap memory.old) (M.grants memory.old) context.old shared.old)
-        (lent (M.heap memory.new) (M.grants memory.new) context.new shared.new) }
+    requires good { IsGood (lent_of M.heap M.grants context.old runtime.old) }
+    ensures acts { Acts rows.wait_asked (rows.wait_caller caller) attempt (done result)
+        (lent_of M.heap M.grants context.old runtime.old)
+        (lent_of M.heap M.grants context.new runtime.new) }
     ensures waited { (births : ℕ → ℕ) (names : List (List ℕ)) → IfOk result (λ both.
         rows.waited (map (value_of births names) context.old.operands)
         ≡ Some (births both.lock, births both.condition)) }
-    ensures lock { IfOk result (λ both. StandsAs (M.heap memory.new) Kind.Lock both.lock 1) }
+    ensures lock { IfOk result (λ both. StandsAs (M.heap runtime.new.memory) Kind.Lock both.lock 1) }
     ensures condition { IfOk result (λ both.
-        StandsAs (M.heap memory.new) Kind.Condition both.condition 1) }
+        StandsAs (M.heap runtime.new.memory) Kind.Condition both.condition 1) }
 {
     let Some((top, second)) = context.operands.top_two() else {
         return Err(Break::Raises(ErrorName::StackUnderflow));
@@ -95,13 +88,13 @@ pub fn wait<M: Memory>(
     let Some(lock) = lock_of(second) else {
         return Err(Break::Raises(ErrorName::TypeCheck));
     };
-    if owner(memory, lock) != caller {
+    if owner(&mut runtime.memory, lock) != caller {
         return Err(Break::Raises(ErrorName::InvalidContext));
     }
-    if let Err(reason) = permit_records(memory, trial.slot, 1) {
+    if let Err(reason) = permit_records(&mut runtime.memory, attempt.slot, 1) {
         return Err(Break::NotMade(reason));
     }
-    set_owner(memory, trial.slot, lock, 0);
+    set_owner(&mut runtime.memory, attempt.slot, lock, 0);
     context.operands.discard(2);
     Ok(Waited { lock, condition })
 }
@@ -146,22 +139,21 @@ fn push_monitored(frames: &mut Frames, lock: u32, body: Part)
 pub fn monitor<M: Memory>(
     caller: u32,
     context: &mut Context,
-    shared: &mut Shared,
-    memory: &mut M,
-    trial: Trial,
+    runtime: &mut Runtime<M>,
+    attempt: Attempt,
 ) -> Result<Entered, Break>
     requires caller { 1 ≤ caller }
     requires identifier { caller < 2 ^ 31 }
-    requires good { IsGood
-        (lent (M.heap memory.old) (M.grants memory.old) context.old shared.old) }
-    ensures acts { Acts (rows.monitor_asked caller) (rows.monitor_caller caller) trial (done result)
-        (lent (M.heap memory.old) (M.grants memory.old) context.old shared.old)
-        (lent (M.heap memory.new) (M.grants memory.new) context.new shared.new) }
+    requires good { IsGood (lent_of M.heap M.grants context.old runtime.old) }
+    ensures acts { Acts (rows.monitor_asked caller) (rows.monitor_caller caller) attempt
+        (done result)
+        (lent_of M.heap M.grants context.old runtime.old)
+        (lent_of M.heap M.grants context.new runtime.new) }
     ensures entered { (store : Store) → IsShown
-        (lent (M.heap memory.old) (M.grants memory.old) context.old shared.old) store
+        (lent_of M.heap M.grants context.old runtime.old) store
         → IfOk result (λ entered. rows.is_waiting (rows.monitor_part caller (scene_of
-        (lent (M.heap memory.old) (M.grants memory.old) context.old shared.old) store).operands
-        (scene_of (lent (M.heap memory.old) (M.grants memory.old) context.old shared.old) store))
+        (lent_of M.heap M.grants context.old runtime.old) store).operands
+        (scene_of (lent_of M.heap M.grants context.old runtime.old) store))
         ≡ waits_by entered) }
 {
     let Some((top, second)) = context.operands.top_two() else {
@@ -176,7 +168,7 @@ pub fn monitor<M: Memory>(
     if !is_executable(body.access) {
         return Err(Break::Raises(ErrorName::InvalidAccess));
     }
-    let owned_by = owner(memory, lock);
+    let owned_by = owner(&mut runtime.memory, lock);
     if owned_by == caller {
         return Err(Break::Raises(ErrorName::InvalidContext));
     }
@@ -186,10 +178,10 @@ pub fn monitor<M: Memory>(
     if context.frames.len() > FRAME_LIMIT - monitored_count(body) {
         return Err(Break::Raises(ErrorName::ExecStackOverflow));
     }
-    if let Err(reason) = permit_records(memory, trial.slot, 1) {
+    if let Err(reason) = permit_records(&mut runtime.memory, attempt.slot, 1) {
         return Err(Break::NotMade(reason));
     }
-    set_owner(memory, trial.slot, lock, caller);
+    set_owner(&mut runtime.memory, attempt.slot, lock, caller);
     push_monitored(&mut context.frames, lock, body);
     context.operands.discard(2);
     Ok(Entered::Enters)

@@ -2,37 +2,37 @@
 
 ghost use Rattle.std.specs.Prelude.{◌≡◌, ◌<◌, ℤ, Option};
 ghost use Rattle.ps_ctx_table.specs.Desks.{IsSteady};
-ghost use Rattle.ps_ctx.specs.Calls.{over, RunsAt, Calls};
-ghost use Rattle.ps_ops_state.specs.declared.lent.Trial.{Trial as ATrial};
+ghost use Rattle.ps_ctx.specs.Calls.{over_of, Calls, RunsAt};
+ghost use Rattle.ps_ops_state.specs.declared.lent.Attempt.{Attempt as AnAttempt};
 ghost use Rattle.ps_ctx_operators.specs.Done.{DoesBy};
 
 use crate::endings::end;
 use crate::monitors;
 use ps_ctx::notes::Note;
+use ps_ctx::worlds::Calling;
 use ps_ctx_table::contexts::Contexts;
 use ps_language::operators::Operator;
 use ps_mem::Memory;
 use ps_ops_operands::failure::NotMade;
 use ps_ops_state::breaks::Break;
-use ps_ops_state::lent::Trial;
+use ps_ops_state::lent::{Attempt, Runtime};
 
 /// `C notify`: all that wait for the condition retake their locks. Its caller hasn't settled yet.
 /// Raises `stackunderflow` and `typecheck`.
 pub fn notify<M: Memory>(
     caller: u32,
     contexts: &mut Contexts,
-    memory: &mut M,
+    runtime: &mut Runtime<M>,
 ) -> Result<Note, Break>
     requires runs { RunsAt caller contexts.old.table }
-    requires steady { IsSteady
-        (over (M.heap memory.old) (M.grants memory.old) contexts.old) }
-    ensures { (trial : ATrial) (shown : Option (ℤ × ℤ))
-        → DoesBy Operator.Notify caller trial shown result
-        (over (M.heap memory.old) (M.grants memory.old) contexts.old)
-        (over (M.heap memory.new) (M.grants memory.new) contexts.new) }
+    requires steady { IsSteady (over_of M.heap M.grants runtime.old contexts.old) }
+    ensures { (attempt : AnAttempt) (shown : Option (ℤ × ℤ))
+        → DoesBy Operator.Notify caller attempt shown result
+        (over_of M.heap M.grants runtime.old contexts.old)
+        (over_of M.heap M.grants runtime.new contexts.new) }
 {
     let member = contexts.table.get_mut(caller);
-    match monitors::notify(&mut member.context, &mut contexts.shared, memory) {
+    match monitors::notify(&mut member.context, runtime) {
         Ok(condition) => {
             contexts.notify_all(condition);
             Ok(Note::Nothing)
@@ -49,17 +49,20 @@ pub fn notify<M: Memory>(
 pub fn call_notify<M: Memory>(
     caller: u32,
     contexts: &mut Contexts,
-    memory: &mut M,
-    trial: Trial,
+    runtime: &mut Runtime<M>,
+    attempt: Attempt,
     shown: Option<(i32, i32)>,
 ) -> Result<Note, NotMade>
     requires runs { RunsAt caller contexts.old.table }
-    requires steady { IsSteady
-        (over (M.heap memory.old) (M.grants memory.old) contexts.old) }
-    ensures { Calls Operator.Notify caller trial shown result
-        (over (M.heap memory.old) (M.grants memory.old) contexts.old)
-        (over (M.heap memory.new) (M.grants memory.new) contexts.new) }
+    requires steady { IsSteady (over_of M.heap M.grants runtime.old contexts.old) }
+    ensures { Calls Operator.Notify caller attempt shown result
+        (over_of M.heap M.grants runtime.old contexts.old)
+        (over_of M.heap M.grants runtime.new contexts.new) }
 {
-    let done = notify(caller, contexts, memory);
-    end(Operator::Notify, done, caller, contexts, memory, trial)
+    let calling = Calling {
+        caller,
+        operator: Operator::Notify,
+    };
+    let done = notify(caller, contexts, runtime);
+    end(calling, done, contexts, runtime, attempt)
 }

@@ -12,11 +12,12 @@ use crate::undefined::call_undefined;
 use crate::waiting::call_wait;
 use ps_ctx::deeds::Deeds;
 use ps_ctx::notes::Note;
+use ps_ctx::worlds::Calling;
 use ps_ctx_table::contexts::Contexts;
 use ps_language::operators::Operator;
 use ps_mem::Memory;
 use ps_ops_operands::failure::NotMade;
-use ps_ops_state::lent::Trial;
+use ps_ops_state::lent::{Attempt, Runtime};
 use std::alloc::Global;
 
 /// Who does them; the stacks of a new context have their room from this allocator.
@@ -28,27 +29,27 @@ pub struct WorldOperators {
 impl Deeds for WorldOperators {
     fn call<M: Memory>(
         &mut self,
-        operator: Operator,
-        caller: u32,
+        calling: Calling,
         contexts: &mut Contexts,
-        memory: &mut M,
-        trial: Trial,
+        runtime: &mut Runtime<M>,
+        attempt: Attempt,
         shown: Option<(i32, i32)>,
     ) -> Result<Note, NotMade> {
-        match operator {
-            Operator::Fork => call_fork(caller, self.alloc, contexts, memory, trial, shown),
-            Operator::Join => call_join(caller, contexts, memory, trial, shown),
-            Operator::Detach => call_detach(caller, contexts, memory, trial, shown),
-            Operator::Monitor => call_monitor(caller, contexts, memory, trial, shown),
-            Operator::Wait => call_wait(caller, contexts, memory, trial, shown),
-            Operator::Notify => call_notify(caller, contexts, memory, trial, shown),
+        let caller = calling.caller;
+        match calling.operator {
+            Operator::Fork => call_fork(caller, self.alloc, contexts, runtime, attempt, shown),
+            Operator::Join => call_join(caller, contexts, runtime, attempt, shown),
+            Operator::Detach => call_detach(caller, contexts, runtime, attempt, shown),
+            Operator::Monitor => call_monitor(caller, contexts, runtime, attempt, shown),
+            Operator::Wait => call_wait(caller, contexts, runtime, attempt, shown),
+            Operator::Notify => call_notify(caller, contexts, runtime, attempt, shown),
             Operator::CurrentContext
             | Operator::Lock
             | Operator::Condition
             | Operator::Yield
             | Operator::VmStatus
-            | Operator::VmReclaim => call_alone(operator, caller, contexts, memory, trial, shown),
-            _ => call_undefined(operator, caller, contexts, memory, trial, shown),
+            | Operator::VmReclaim => call_alone(calling, contexts, runtime, attempt, shown),
+            _ => call_undefined(calling, contexts, runtime, attempt, shown),
         }
     }
 
@@ -56,13 +57,18 @@ impl Deeds for WorldOperators {
         &mut self,
         caller: u32,
         contexts: &mut Contexts,
-        memory: &mut M,
-        trial: Trial,
+        runtime: &mut Runtime<M>,
+        attempt: Attempt,
     ) -> Result<(), NotMade> {
-        retake(caller, contexts, memory, trial)
+        retake(caller, contexts, runtime, attempt)
     }
 
-    fn is_ready<M: Memory>(&self, identifier: u32, contexts: &Contexts, memory: &mut M) -> bool {
-        is_ready(identifier, contexts, memory)
+    fn is_ready<M: Memory>(
+        &self,
+        identifier: u32,
+        contexts: &Contexts,
+        runtime: &mut Runtime<M>,
+    ) -> bool {
+        is_ready(identifier, contexts, runtime)
     }
 }

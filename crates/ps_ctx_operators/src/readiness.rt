@@ -9,7 +9,7 @@ ghost use Rattle.ps_ops_operands.specs.Changes.{values_in};
 ghost use Rattle.ps_ctx_operators.specs.Rows.{is_waiting, monitor_part};
 ghost use Rattle.ps_ctx_table.specs.Desks.{IsSteady, IsWorld};
 ghost use Rattle.ps_ctx_table.specs.Worlds.{contexts_in};
-ghost use Rattle.ps_ctx.specs.Calls.{over};
+ghost use Rattle.ps_ctx.specs.Calls.{over_of};
 
 use crate::join_waits::join_waits;
 use crate::locks::owner;
@@ -20,6 +20,7 @@ use ps_mem::Memory;
 use ps_ops_control::readers::procedure_of;
 use ps_ops_operands::Operands;
 use ps_ops_operands::access::is_executable;
+use ps_ops_state::lent::Runtime;
 use ps_word::values::Content;
 
 /// Whether `monitor` with these operands waits: nothing is wrong with them, and the lock is
@@ -81,13 +82,13 @@ fn waits_again<M: Memory>(
 /// Whether the context of an identifier may step: one that runs or is unwinding, one whose
 /// `monitor` or `join` wouldn't wait now, or one whose lock is free. The memory is only read.
 #[inline(always)]
-pub fn is_ready<M: Memory>(identifier: u32, contexts: &Contexts, memory: &mut M) -> bool
-    requires steady { IsSteady
-        (over (M.heap memory.old) (M.grants memory.old) contexts.now) }
-    ensures heap { M.heap memory.new ≡ M.heap memory.old }
-    ensures grants { M.grants memory.new ≡ M.grants memory.old }
+pub fn is_ready<M: Memory>(identifier: u32, contexts: &Contexts, runtime: &mut Runtime<M>) -> bool
+    requires steady { IsSteady (over_of M.heap M.grants runtime.old contexts.now) }
+    ensures heap { M.heap runtime.new.memory ≡ M.heap runtime.old.memory }
+    ensures grants { M.grants runtime.new.memory ≡ M.grants runtime.old.memory }
+    ensures shared { runtime.new.shared ≡ runtime.old.shared }
     ensures ready { (w : World)
-        → IsWorld (over (M.heap memory.old) (M.grants memory.old) contexts.now) w
+        → IsWorld (over_of M.heap M.grants runtime.old contexts.now) w
         → result ≡ is_ready w identifier }
 {
     let Some(member) = contexts.table.get(identifier) else {
@@ -96,9 +97,14 @@ pub fn is_ready<M: Memory>(identifier: u32, contexts: &Contexts, memory: &mut M)
     match member.course {
         Course::Running => true,
         Course::Unwinding(_) => true,
-        Course::Again => !waits_again(identifier, &member.context.operands, contexts, memory),
+        Course::Again => !waits_again(
+            identifier,
+            &member.context.operands,
+            contexts,
+            &mut runtime.memory,
+        ),
         Course::Waiting { .. } => false,
-        Course::Retaking { lock } => owner(memory, lock) == 0,
+        Course::Retaking { lock } => owner(&mut runtime.memory, lock) == 0,
         Course::Finished => false,
     }
 }

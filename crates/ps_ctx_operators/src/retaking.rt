@@ -2,7 +2,7 @@
 
 ghost use Rattle.std.specs.Prelude.{◌<◌};
 ghost use Rattle.ps_ctx_table.specs.Desks.{IsSteady};
-ghost use Rattle.ps_ctx.specs.Calls.{over, RetakesAt, Retakes};
+ghost use Rattle.ps_ctx.specs.Calls.{over_of, Retakes, RetakesAt};
 ghost use Rattle.ps_ctx.specs.Held.{CourseAt};
 
 use crate::locks::set_owner;
@@ -10,7 +10,7 @@ use ps_ctx_table::contexts::Contexts;
 use ps_ctx_table::members::Course;
 use ps_mem::Memory;
 use ps_ops_operands::failure::NotMade;
-use ps_ops_state::lent::Trial;
+use ps_ops_state::lent::{Attempt, Runtime};
 use ps_step_outcome::breaks::permit_records;
 use ps_step_outcome::turned::Turned;
 
@@ -35,23 +35,22 @@ fn awaited_lock(caller: u32, contexts: &Contexts) -> u32
 pub fn retake<M: Memory>(
     caller: u32,
     contexts: &mut Contexts,
-    memory: &mut M,
-    trial: Trial,
+    runtime: &mut Runtime<M>,
+    attempt: Attempt,
 ) -> Result<(), NotMade>
     requires retakes { RetakesAt caller contexts.old.table }
-    requires steady { IsSteady
-        (over (M.heap memory.old) (M.grants memory.old) contexts.old) }
-    ensures { Retakes caller trial result
-        (over (M.heap memory.old) (M.grants memory.old) contexts.old)
-        (over (M.heap memory.new) (M.grants memory.new) contexts.new) }
+    requires steady { IsSteady (over_of M.heap M.grants runtime.old contexts.old) }
+    ensures { Retakes caller attempt result
+        (over_of M.heap M.grants runtime.old contexts.old)
+        (over_of M.heap M.grants runtime.new contexts.new) }
 {
     let lock = awaited_lock(caller, contexts);
     // no identifier that was made is above 2^31 - 1
     contexts.table.made();
-    if let Err(reason) = permit_records(memory, trial.slot, 1) {
+    if let Err(reason) = permit_records(&mut runtime.memory, attempt.slot, 1) {
         return Err(reason);
     }
-    set_owner(memory, trial.slot, lock, caller);
+    set_owner(&mut runtime.memory, attempt.slot, lock, caller);
     contexts.settle(caller, Turned::Goes);
     Ok(())
 }

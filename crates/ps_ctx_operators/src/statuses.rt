@@ -6,7 +6,7 @@ ghost use Rattle.ps_mem.specs.Meaning.{value_of};
 ghost use Rattle.ps_ops_operands.specs.Does.{Does};
 ghost use Rattle.ps_ops_operands.specs.Kept.{AreFrom};
 ghost use Rattle.ps_ops_state.specs.Acts.{Acts, nothing_asked};
-ghost use Rattle.ps_ops_state.specs.Lent.{lent, IsGood};
+ghost use Rattle.ps_ops_state.specs.Lent.{lent_of, IsGood};
 ghost use Rattle.ps_ctx_operators.specs.Tells.{done};
 ghost use Rattle.ps_ctx_operators.specs.Rows as rows;
 
@@ -15,7 +15,7 @@ use ps_mem::Memory;
 use ps_ops_operands::readers::integer_of;
 use ps_ops_operands::{Operands, plain};
 use ps_ops_state::breaks::{Break, made};
-use ps_ops_state::lent::{Context, Shared, Trial};
+use ps_ops_state::lent::{Attempt, Context, Runtime};
 use ps_stacks::OPERAND_LIMIT;
 
 /// Pushes level, words used and words that there are; three zeros where nothing is shown. Raises
@@ -41,16 +41,15 @@ fn push_status(operands: &mut Operands, shown: Option<(i32, i32)>) -> Result<(),
 pub fn vm_status<M: Memory>(
     shown: Option<(i32, i32)>,
     context: &mut Context,
-    shared: &mut Shared,
-    memory: &mut M,
+    runtime: &mut Runtime<M>,
 ) -> Result<(), Break>
-    requires good { IsGood
-        (lent (M.heap memory.old) (M.grants memory.old) context.old shared.old) }
-    ensures heap { M.heap memory.new ≡ M.heap memory.old }
+    requires good { IsGood (lent_of M.heap M.grants context.old runtime.old) }
+    ensures heap { M.heap runtime.new.memory ≡ M.heap runtime.old.memory }
     ensures error { IfErr result (λ why. why ≡ Break.Raises ErrorName.StackOverflow) }
-    ensures acts { (trial : Trial) → Acts nothing_asked (rows.vmstatus_caller shown) trial result
-        (lent (M.heap memory.old) (M.grants memory.old) context.old shared.old)
-        (lent (M.heap memory.new) (M.grants memory.new) context.new shared.new) }
+    ensures acts { (attempt : Attempt) → Acts nothing_asked (rows.vmstatus_caller shown) attempt
+        result
+        (lent_of M.heap M.grants context.old runtime.old)
+        (lent_of M.heap M.grants context.new runtime.new) }
 {
     made(push_status(&mut context.operands, shown))
 }
@@ -64,16 +63,12 @@ fn is_wish(number: i32) -> bool
 
 /// `i vmreclaim`: the number of the wish, from -2 to 2. Raises `stackunderflow`, `typecheck`, and
 /// `rangecheck` for another number.
-pub fn vm_reclaim<M: Memory>(
-    context: &mut Context,
-    shared: &mut Shared,
-    memory: &mut M,
-) -> Result<i32, Break>
-    requires good { IsGood
-        (lent (M.heap memory.old) (M.grants memory.old) context.old shared.old) }
-    ensures acts { (trial : Trial) → Acts nothing_asked rows.vmreclaim_caller trial (done result)
-        (lent (M.heap memory.old) (M.grants memory.old) context.old shared.old)
-        (lent (M.heap memory.new) (M.grants memory.new) context.new shared.new) }
+pub fn vm_reclaim<M: Memory>(context: &mut Context, runtime: &mut Runtime<M>) -> Result<i32, Break>
+    requires good { IsGood (lent_of M.heap M.grants context.old runtime.old) }
+    ensures acts { (attempt : Attempt) → Acts nothing_asked rows.vmreclaim_caller attempt
+        (done result)
+        (lent_of M.heap M.grants context.old runtime.old)
+        (lent_of M.heap M.grants context.new runtime.new) }
     ensures wish { (births : ℕ → ℕ) (names : List (List ℕ)) → IfOk result (λ number.
         rows.wished (map (value_of births names) context.old.operands) ≡ Some number) }
 {

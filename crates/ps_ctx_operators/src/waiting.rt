@@ -2,17 +2,18 @@
 
 ghost use Rattle.std.specs.Prelude.{◌<◌};
 ghost use Rattle.ps_ctx_table.specs.Desks.{IsSteady};
-ghost use Rattle.ps_ctx.specs.Calls.{over, RunsAt, Calls};
+ghost use Rattle.ps_ctx.specs.Calls.{over_of, Calls, RunsAt};
 
 use crate::endings::end;
 use crate::monitors::{self, Waited};
 use ps_ctx::notes::Note;
+use ps_ctx::worlds::Calling;
 use ps_ctx_table::contexts::Contexts;
 use ps_ctx_table::members::Course;
 use ps_language::operators::Operator;
 use ps_mem::Memory;
 use ps_ops_operands::failure::NotMade;
-use ps_ops_state::lent::Trial;
+use ps_ops_state::lent::{Attempt, Runtime};
 
 /// A running context calls `wait`, whose element is taken: it frees its lock, waits for the
 /// condition, and its turn ends. Or its error is noted, and it settles: `stackunderflow`,
@@ -24,30 +25,27 @@ use ps_ops_state::lent::Trial;
 pub fn call_wait<M: Memory>(
     caller: u32,
     contexts: &mut Contexts,
-    memory: &mut M,
-    trial: Trial,
+    runtime: &mut Runtime<M>,
+    attempt: Attempt,
     shown: Option<(i32, i32)>,
 ) -> Result<Note, NotMade>
     requires runs { RunsAt caller contexts.old.table }
-    requires steady { IsSteady
-        (over (M.heap memory.old) (M.grants memory.old) contexts.old) }
-    ensures { Calls Operator.Wait caller trial shown result
-        (over (M.heap memory.old) (M.grants memory.old) contexts.old)
-        (over (M.heap memory.new) (M.grants memory.new) contexts.new) }
+    requires steady { IsSteady (over_of M.heap M.grants runtime.old contexts.old) }
+    ensures { Calls Operator.Wait caller attempt shown result
+        (over_of M.heap M.grants runtime.old contexts.old)
+        (over_of M.heap M.grants runtime.new contexts.new) }
 {
-    let again = trial;
-    let member = contexts.table.get_mut(caller);
-    match monitors::wait(
+    let calling = Calling {
         caller,
-        &mut member.context,
-        &mut contexts.shared,
-        memory,
-        trial,
-    ) {
+        operator: Operator::Wait,
+    };
+    let same_attempt = attempt;
+    let member = contexts.table.get_mut(caller);
+    match monitors::wait(caller, &mut member.context, runtime, attempt) {
         Ok(Waited { lock, condition }) => {
             member.course = Course::Waiting { lock, condition };
             Ok(Note::TurnEnds)
         }
-        Err(why) => end(Operator::Wait, Err(why), caller, contexts, memory, again),
+        Err(why) => end(calling, Err(why), contexts, runtime, same_attempt),
     }
 }

@@ -10,7 +10,7 @@ use Rattle.ps_language.specs.StepValues.{command_of}
 use Rattle.ps_language.specs.Value.{Store}
 use Rattle.ps_language.specs.World.{running, Context, Machine, World}
 use Rattle.ps_mem.specs.Heap.{birth_at}
-use Rattle.ps_ops_state.specs.declared.lent.Trial.{Trial}
+use Rattle.ps_ops_state.specs.declared.lent.Attempt.{Attempt}
 use Rattle.ps_ops_state.specs.Acts.{Asked}
 use Rattle.ps_ops_state.specs.Lent.{Lent, scene_of, IsShown}
 use Rattle.ps_step_outcome.specs.declared.turned.Turned.{Turned}
@@ -99,17 +99,17 @@ module _ (d : Desk) (w : World) (at : IsWorld d w) (identifier : ℕ) (member : 
 
   -- as where it failed: the error's turn was made
   pub failed_world : member.course ≡ Running → (steady : IsSteady d)
-      (asks : Lent → Store → Asked) (operator : Operator) (error : ErrorName) (trial : Trial)
+      (asks : Lent → Store → Asked) (operator : Operator) (error : ErrorName) (attempt : Attempt)
       (new : Lent) (turned : Turned)
-      → Turns asks (operator_error operator error) trial (Ok turned) (lent_to d member.context) new
+      → Turns asks (operator_error operator error) attempt (Ok turned) (lent_to d member.context) new
       → IsWorld (desk_turned d identifier member new turned)
       (lifted identifier (λ one. settled (failed error (command_of operator) one)) w)
-  failed_world runs steady asks operator error trial new turned made =
+  failed_world runs steady asks operator error attempt new turned made =
       let turn = operator_error operator error in
-      let done = ap machine_reached (turned_reaches d steady identifier member found asks turn trial
+      let done = ap machine_reached (turned_reaches d steady identifier member found asks turn attempt
       new turned made w at) in
       subst (IsWorld (desk_turned d identifier member new turned))
       (ap (with_machine identifier w)
       (sym done ∙ ap (λ one. settled (failed error (command_of operator) one)) (same_scene runs))
       ∙ sym (lifted_there (λ one. settled (failed error (command_of operator) one))))
-      (turned_world d steady identifier member found asks turn trial new turned made w at)
+      (turned_world d steady identifier member found asks turn attempt new turned made w at)

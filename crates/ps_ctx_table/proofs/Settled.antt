@@ -59,14 +59,14 @@ turned_gone turned identifier members after member course removed there is detac
 
 -- the desk then
 pub desk_settled : (h : Heap) (grants : Grants) (members settled : List (Option Member))
-    (identifier : ℕ) (member now : Member) (shared after : Shared) (had faulted : Bool)
+    (identifier : ℕ) (member now : Member) (shared : Shared) (had faulted : Bool)
     (turned : Turned) → item_at members identifier ≡ Some member
     → settled ≡ turned_members turned identifier (with_item members identifier (Some now))
-    → after ≡ shared → faulted ≡ (had || tells turned)
-    → desk h grants settled after faulted
+    → faulted ≡ (had || tells turned)
+    → desk h grants settled shared faulted
     ≡ desk h grants (with_item members identifier (member_left (turned_member turned now))) shared
     (had || tells turned)
-desk_settled h grants members settled identifier member now shared after had faulted turned found
-    is same told =
+desk_settled h grants members settled identifier member now shared had faulted turned found is
+    told =
     let table = is ∙ turned_changed turned identifier members member now found in
-    λ i. desk h grants (table i) (same i) (told i)
+    λ i. desk h grants (table i) shared (told i)

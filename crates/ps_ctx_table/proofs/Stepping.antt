@@ -10,7 +10,7 @@ use Rattle.ps_language.specs.StepValues.{Turn}
 use Rattle.ps_language.specs.Value.{Store}
 use Rattle.ps_language.specs.World.{Status, running, unwinding, again, waiting, retaking, finished, Context, World}
 use Rattle.ps_mem.specs.Heap.{birth_at}
-use Rattle.ps_ops_state.specs.declared.lent.Trial.{Trial}
+use Rattle.ps_ops_state.specs.declared.lent.Attempt.{Attempt}
 use Rattle.ps_ops_state.specs.Acts.{Asked}
 use Rattle.ps_ops_state.specs.Lent.{Lent, scene_of, around_of}
 use Rattle.ps_step_outcome.specs.declared.turned.Turned.{Turned}
@@ -89,20 +89,20 @@ module _ (d : Desk) (w : World) (at : IsWorld d w) (identifier : ℕ) (member : 
 
   -- the world's step is what its turn comes to
   pub turned_steps : (steady : IsSteady d) (asks : Lent → Store → Asked)
-      (turn : Lent → Store → Turn) (trial : Trial) (new : Lent) (turned : Turned)
-      (made : Turns asks turn trial (Ok turned) (lent_to d member.context) new)
+      (turn : Lent → Store → Turn) (attempt : Attempt) (new : Lent) (turned : Turned)
+      (made : Turns asks turn attempt (Ok turned) (lent_to d member.context) new)
       (shown : Option (ℤ × ℤ)) → may_end (status_of (birth_at d.heap) member.course) ≡ true
       → turn (lent_to d member.context) w.store
       ≡ turn_as (around_of (lent_to d member.context)) (status_of (birth_at d.heap) member.course)
       (scene_of (lent_to d member.context) w.store).frames
       (scene_of (lent_to d member.context) w.store)
-      → stepped w identifier trial.refused shown
-      ≡ after_own identifier trial.refused shown w (reached_by turned
-      (turned_machine d steady identifier member found asks turn trial new turned made w at))
-  turned_steps steady asks turn trial new turned made shown may is =
+      → stepped w identifier attempt.refused shown
+      ≡ after_own identifier attempt.refused shown w (reached_by turned
+      (turned_machine d steady identifier member found asks turn attempt new turned made w at))
+  turned_steps steady asks turn attempt new turned made shown may is =
       let context = context_of d.heap d.names member in
-      stepped_own w identifier trial.refused shown context context_there may
-      ∙ ap (after_own identifier trial.refused shown w)
-      (own_step_is trial.refused
-      ∙ (ap (after_turn trial.refused (machine_of w context)) (sym is)
-      ∙ turned_reaches d steady identifier member found asks turn trial new turned made w at))
+      stepped_own w identifier attempt.refused shown context context_there may
+      ∙ ap (after_own identifier attempt.refused shown w)
+      (own_step_is attempt.refused
+      ∙ (ap (after_turn attempt.refused (machine_of w context)) (sym is)
+      ∙ turned_reaches d steady identifier member found asks turn attempt new turned made w at))

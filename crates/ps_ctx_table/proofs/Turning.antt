@@ -15,7 +15,7 @@ use Rattle.ps_ops_operands.specs.declared.failure.NotMade.{NotMade as Reason}
 use Rattle.ps_ops_control.specs.declared.frames.Frame.{Frame}
 use Rattle.ps_ops_state.specs.declared.lent.Context.{Context}
 use Rattle.ps_ops_state.specs.declared.lent.Scratch.{Scratch}
-use Rattle.ps_ops_state.specs.declared.lent.Trial.{Trial}
+use Rattle.ps_ops_state.specs.declared.lent.Attempt.{Attempt}
 use Rattle.ps_ops_state.specs.Acts.{Asked, Lasts, IsSame, Stays}
 use Rattle.ps_ops_state.specs.Lent.{Lent, scene_of, IsShown, IsGood}
 use Rattle.ps_step_outcome.specs.declared.turned.Turned.{Turned}
@@ -210,14 +210,14 @@ frame_after (Ends told) frames under_way own = tt
 
 module _ (d : Desk) (steady : IsSteady d) (identifier : ℕ) (member : Member)
     (found : item_at d.members identifier ≡ Some member) (asks : Lent → Store → Asked)
-    (turn : Lent → Store → Turn) (trial : Trial) (new : Lent) where
+    (turn : Lent → Store → Turn) (attempt : Attempt) (new : Lent) where
   good_there : IsGoodMember d member
   good_there = member_at (IsGoodMember d) d.members identifier member steady.members found
 
   -- ---- that was made
 
   module _ (turned : Turned)
-      (made : Turns asks turn trial (Ok turned) (lent_to d member.context) new) where
+      (made : Turns asks turn attempt (Ok turned) (lent_to d member.context) new) where
     held : IsCourseHeld new.heap (course_after turned new.frames)
     held = course_held new.heap turned new.frames
 
@@ -235,7 +235,7 @@ module _ (d : Desk) (steady : IsSteady d) (identifier : ℕ) (member : Member)
         (frame_after turned new.frames made.under_way own))
 
     module _ (w : World) (at : IsWorld d w) where
-      pub is_turned : IsTurned trial.refused (turn (lent_to d member.context) w.store) turned
+      pub is_turned : IsTurned attempt.refused (turn (lent_to d member.context) w.store) turned
           w.store (lent_to d member.context) new
       is_turned = (made.meets w.store (member_at (λ one. IsShown (lent_to d one.context) w.store)
           d.members identifier member at.members found)).did
@@ -249,7 +249,7 @@ module _ (d : Desk) (steady : IsSteady d) (identifier : ℕ) (member : Member)
           record (with_scene (scene_of new is_turned.after) (turns.status_of turned) machine)
           { printed = new.printed; error_lines = lines_after turned w.error_lines }
 
-      pub turned_reaches : after_turn trial.refused machine
+      pub turned_reaches : after_turn attempt.refused machine
           (turn (lent_to d member.context) w.store)
           ≡ reached_by turned turned_machine
       turned_reaches = is_turned.is machine at.printed refl
@@ -279,7 +279,7 @@ module _ (d : Desk) (steady : IsSteady d) (identifier : ℕ) (member : Member)
 
   -- ---- that was not made: nothing has changed
 
-  module _ (reason : Reason) (unmade : Turns asks turn trial (Err reason)
+  module _ (reason : Reason) (unmade : Turns asks turn attempt (Err reason)
       (lent_to d member.context) new) where
     pub unmade_steady : IsSteady (desk_unmade d identifier member new)
     unmade_steady =

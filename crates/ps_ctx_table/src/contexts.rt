@@ -1,4 +1,4 @@
-//! All contexts of a world with what they share (PLRM2, 7.1).
+//! All contexts of a world (PLRM2, 7.1).
 
 ghost use Rattle.std.specs.Prelude.{◌≡◌, ℕ, ◌<◌, ◌||◌, List, length, IsSome, OnSome, option_map};
 ghost use Rattle.ps_language.specs.World as world;
@@ -12,14 +12,12 @@ ghost use Rattle.ps_ctx_table.specs.Desks.{tells, turned_members};
 use crate::members::{Course, Member, Notified};
 use crate::table::{CONTEXT_LIMIT, IDENTIFIER_LIMIT, Table};
 use ps_ops_control::frames::Frames;
-use ps_ops_state::lent::Shared;
 use ps_step_outcome::turned::Turned;
 
-/// All contexts, by identifiers, and what they share beside the memory.
+/// All contexts, by identifiers.
 #[derive(Drop)]
-pub struct Contexts<'a> {
+pub struct Contexts {
     pub table: Table<Member>,
-    pub shared: Shared<'a>,
     /// Whether the line of an error was printed.
     pub has_faulted: bool,
 }
@@ -52,12 +50,11 @@ fn tells(turned: Turned) -> bool
     matches!(turned, Turned::Ends { told: true })
 }
 
-impl Contexts<'_> {
+impl Contexts {
     /// How far a context is after its turn; one that is detached and finished is gone.
     pub fn settle(&mut self, identifier: u32, turned: Turned)
         requires { IsSome (item_at self.old.table identifier) }
         ensures table { self.new.table ≡ turned_members turned identifier self.old.table }
-        ensures shared { self.new.shared ≡ self.old.shared }
         ensures faulted { self.new.has_faulted ≡ (self.old.has_faulted || tells turned) }
     {
         self.has_faulted |= tells(turned);
@@ -103,7 +100,6 @@ impl Contexts<'_> {
     /// All that wait for the condition at an address retake their locks (PLRM2, 8, `notify`).
     pub fn notify_all(&mut self, condition: u32)
         ensures table { self.new.table ≡ notified_members condition self.old.table }
-        ensures shared { self.new.shared ≡ self.old.shared }
         ensures faulted { self.new.has_faulted ≡ self.old.has_faulted }
     {
         self.table.change_each(&Notified { condition });

@@ -15,7 +15,7 @@ ghost use Rattle.ps_mem.specs.Heap.{birth_at};
 ghost use Rattle.ps_mem.specs.Keeps.{Keeps};
 ghost use Rattle.ps_mem.specs.References.{StandsAs};
 ghost use Rattle.ps_ops_operands.specs.declared.failure.NotMade.{NotMade as AReason};
-ghost use Rattle.ps_ops_state.specs.declared.lent.Trial.{Trial as ATrial};
+ghost use Rattle.ps_ops_state.specs.declared.lent.Attempt.{Attempt as AnAttempt};
 ghost use Rattle.ps_ops_state.specs.Acts.{Asked, Lasts, Stays};
 ghost use Rattle.ps_ops_state.specs.Lent.{Lent, scene_of, around_of, IsShown, IsGood};
 ghost use Rattle.ps_step_outcome.specs.declared.turned.Turned.{Turned as ATurned};
@@ -55,10 +55,11 @@ pub fn desk_laws()
     // The turn of one that runs or is unwinding is the world's step, to where it is put back or
     // leaves an operator to the world.
     ensures turn { (d : Desk) (w : World) (identifier : ℕ) (member : AMember)
-        (asks : Lent → Store → Asked) (turn : Lent → Store → Turn) (trial : ATrial) (new : Lent)
+        (asks : Lent → Store → Asked) (turn : Lent → Store → Turn) (attempt : AnAttempt)
+        (new : Lent)
         (turned : ATurned) (shown : Option (ℤ × ℤ)) → IsWorld d w → IsSteady d
         → item_at d.members identifier ≡ Some member
-        → Turns asks turn trial (Ok turned) (lent_to d member.context) new
+        → Turns asks turn attempt (Ok turned) (lent_to d member.context) new
         → may_end (status_of (birth_at d.heap) member.course) ≡ true
         → turn (lent_to d member.context) w.store
         ≡ turn_as (around_of (lent_to d member.context))
@@ -66,17 +67,18 @@ pub fn desk_laws()
         (scene_of (lent_to d member.context) w.store).frames
         (scene_of (lent_to d member.context) w.store)
         → (next : Machine)
-        × (stepped w identifier trial.refused shown
-        ≡ after_own identifier trial.refused shown w (reached_by turned next))
+        × (stepped w identifier attempt.refused shown
+        ≡ after_own identifier attempt.refused shown w (reached_by turned next))
         × IsWorld (desk_turned d identifier member new turned)
         (with_machine identifier w (machine_reached (reached_by turned next)))
         × IsSteady (desk_turned d identifier member new turned) }
     // One that was not made leaves the world.
     ensures unmade { (d : Desk) (w : World) (identifier : ℕ) (member : AMember)
-        (asks : Lent → Store → Asked) (turn : Lent → Store → Turn) (trial : ATrial) (new : Lent)
+        (asks : Lent → Store → Asked) (turn : Lent → Store → Turn) (attempt : AnAttempt)
+        (new : Lent)
         (reason : AReason) → IsWorld d w → IsSteady d
         → item_at d.members identifier ≡ Some member
-        → Turns asks turn trial (Err reason) (lent_to d member.context) new
+        → Turns asks turn attempt (Err reason) (lent_to d member.context) new
         → IsWorld (desk_unmade d identifier member new) w
         × IsSteady (desk_unmade d identifier member new) }
     // What is lent of a machine that one came to by own steps is the world's after as many moves.

@@ -24,10 +24,10 @@ use Rattle.ps_core_laws.specs.Runs.{run, IsRun, IsSpace}
 use Rattle.ps_core_laws.proofs.HeapTests.{bool_cases, and_parts, and_both, eq_true, number_is, number_not}
 use Rattle.ps_core_laws.proofs.KeptFacts.{kept}
 use Rattle.ps_mem.proofs.Lists.{slice_get-append_end}
-use Rattle.ps_core_memory.specs.declared.closing.Closing.{Closing}
-use Rattle.ps_core_memory.specs.declared.closing.Closing.TheVariants.{LogFull, Closed as Closed'}
-use Rattle.ps_core_memory.specs.Memory.{is_shut}
-use Rattle.ps_core_memory.proofs.Logged.{length_here, log_there}
+use Rattle.ps_core_laws.specs.declared.closing.Closing.{Closing}
+use Rattle.ps_core_laws.specs.declared.closing.Closing.TheVariants.{LogFull, Closed as Closed'}
+use Rattle.ps_core_laws.specs.Memory.{is_shut}
+use Rattle.ps_core_laws.proofs.Logged.{length_here, log_there}
 use Rattle.ps_table.specs.declared.plays.View.{View}
 use Rattle.ps_table.specs.Mirrored.{KeepsGc, KeepsVm}
 use Rattle.ps_table.specs.Shown.{BothRun, GcRuns, vm_did}

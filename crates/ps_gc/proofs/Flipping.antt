@@ -23,12 +23,12 @@ use Rattle.ps_core_laws.proofs.Kept.{good}
 use Rattle.ps_core_laws.proofs.Lookups.{among-append}
 use Rattle.ps_core_laws.proofs.KeptFacts.{kept}
 use Rattle.ps_core_laws.proofs.LawFacts.{pairs_hold, carries_so, flips_so}
-use Rattle.ps_core_memory.specs.Memory.{heap_of, grants_of, is_shut}
-use Rattle.ps_core_memory.specs.Stores.{number_of, numbers}
-use Rattle.ps_core_flips.specs.Flips.{AfterFlip, replica_at, as_words}
-use Rattle.ps_core_flips.specs.Moves.{IsMovedTo}
-use Rattle.ps_core_flips.proofs.Moved.{moves-memory}
-use Rattle.ps_core_flips.proofs.Flipped.{opens-logs}
+use Rattle.ps_core_laws.specs.Memory.{heap_of, grants_of, is_shut}
+use Rattle.ps_core_laws.specs.Stores.{number_of, numbers}
+use Rattle.ps_core_laws.specs.Flips.{AfterFlip, replica_at, as_words}
+use Rattle.ps_core_laws.specs.Moves.{IsMovedTo}
+use Rattle.ps_core_laws.proofs.Moved.{moves-memory}
+use Rattle.ps_core_laws.proofs.FlipFacts.{opens-logs}
 use Rattle.ps_table.specs.Shown.{BothRun}
 use Rattle.ps_table.proofs.Facts.{taken}
 use Rattle.ps_table.specs.declared.plays.View.{View}

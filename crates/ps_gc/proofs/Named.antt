@@ -26,7 +26,7 @@ use Rattle.ps_core_laws.proofs.HeapTests.{bool_cases, at_number, and_parts, numb
 use Rattle.ps_core_laws.proofs.KeptFacts.{kept}
 use Rattle.ps_core_laws.proofs.Lists.{get_snoc}
 use Rattle.ps_core_laws.proofs.Lookups.{object_at-with_field}
-use Rattle.ps_core_memory.proofs.Logged.{log_here, log_there}
+use Rattle.ps_core_laws.proofs.Logged.{log_here, log_there}
 
 -- an object with at least so many fields stands there
 pub record HasFields (os : List Object) (a n : ℕ) : Type 0 where

@@ -23,10 +23,10 @@ use Rattle.ps_core_laws.specs.Reach.Reach.{root, through}
 use Rattle.ps_core_laws.specs.Runs.{run}
 use Rattle.ps_core_laws.proofs.HeapTests.{bool_cases, or_parts, clash, number_is}
 use Rattle.ps_core_laws.proofs.Reached.{exact, noted}
-use Rattle.ps_core_memory.specs.Memory.{standing, heap_of}
-use Rattle.ps_core_flips.specs.Flips.{replica_at, as_words}
+use Rattle.ps_core_laws.specs.Memory.{standing, heap_of}
+use Rattle.ps_core_laws.specs.Flips.{replica_at, as_words}
 use Rattle.ps_table.specs.Shown.{BothRun}
-use Rattle.ps_core_flips.specs.Reached.{IsReached, by_root, by_field, MovesReached}
+use Rattle.ps_core_laws.specs.Reached.{IsReached, by_root, by_field, MovesReached}
 
 -- ---- words among words
 

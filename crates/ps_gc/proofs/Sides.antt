@@ -7,8 +7,8 @@ use Rattle.ps_core_machine.specs.declared.events.Gc.{Gc}
 use Rattle.ps_core_machine.specs.declared.events.Vm.{Vm}
 use Rattle.ps_core_machine.specs.declared.events.Event.TheVariants.{VmLoad}
 use Rattle.ps_core_laws.proofs.HeapTests.{bool_cases, and_parts, and_both}
-use Rattle.ps_core_memory.specs.Memory.{grants_of}
-use Rattle.ps_core_memory.specs.Stores.{numbers}
+use Rattle.ps_core_laws.specs.Memory.{grants_of}
+use Rattle.ps_core_laws.specs.Stores.{numbers}
 use Rattle.ps_table.specs.declared.plays.View.{View}
 use Rattle.ps_table.specs.Events.{did_all, head_loads}
 use Rattle.ps_table.specs.Shown.{vm_did}

@@ -12,11 +12,11 @@ use Rattle.ps_core_machine.specs.declared.events.Gc.{Gc}
 use Rattle.ps_core_machine.specs.Objects.{value_stands, values_stand}
 use Rattle.ps_core_laws.proofs.HeapTests.{and_both, bool_cases}
 use Rattle.ps_core_laws.proofs.KeptFacts.{kept}
-use Rattle.ps_core_memory.specs.Memory.{heap_of}
-use Rattle.ps_core_memory.specs.Shown.{VmRuns}
-use Rattle.ps_core_memory.specs.Stores.{numbers}
-use Rattle.ps_core_memory.proofs.Written.{known_stands}
-use Rattle.ps_core_flips.specs.Collected.{may_open}
+use Rattle.ps_core_laws.specs.Memory.{heap_of}
+use Rattle.ps_core_laws.specs.Shown.{VmRuns}
+use Rattle.ps_core_laws.specs.Stores.{numbers}
+use Rattle.ps_core_laws.proofs.Written.{known_stands}
+use Rattle.ps_core_laws.specs.Collected.{may_open}
 use Rattle.ps_core_machine.specs.declared.events.Event.{Event}
 use Rattle.ps_core_machine.specs.Steps.{is_open, knows_open}
 use Rattle.ps_table.specs.declared.plays.View.{View}

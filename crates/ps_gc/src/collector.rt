@@ -13,7 +13,7 @@ ghost use Rattle.ps_core_machine.specs.Objects.{values_have_replicas};
 ghost use Rattle.ps_core_machine.specs.Steps.{start, knows_open};
 ghost use Rattle.ps_core_laws.specs.Kept.{ends_closed};
 ghost use Rattle.ps_core_laws.specs.Runs.{IsSpace};
-ghost use Rattle.ps_core_memory.specs.Stores.{numbers};
+ghost use Rattle.ps_core_laws.specs.Stores.{numbers};
 ghost use Rattle.ps_table.specs.Events.{gc_did_all};
 ghost use Rattle.ps_table.specs.Shown.{gc_did};
 ghost use Rattle.ps_gc.specs.Events.{word_replicated, Adds, IsKnown, AreKnown, Copied, DrainedOf};

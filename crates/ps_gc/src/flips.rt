@@ -6,10 +6,10 @@ ghost use Rattle.ps_core_machine.specs.declared.events.Event.TheVariants.{CycleS
 ghost use Rattle.ps_core_machine.specs.Conditions.{AllClosed};
 ghost use Rattle.ps_core_machine.specs.Objects.{log_of, values_have_replicas, values_stand};
 ghost use Rattle.ps_core_machine.specs.Steps.{is_open, knows_open, vm_after, gc_after};
-ghost use Rattle.ps_core_memory.specs.Memory.{heap_of, grants_of};
-ghost use Rattle.ps_core_memory.specs.Stores.{numbers};
-ghost use Rattle.ps_core_flips.specs.Collected.{IsCollected, IsExact};
-ghost use Rattle.ps_core_flips.specs.Flips.{AfterFlip};
+ghost use Rattle.ps_core_laws.specs.Memory.{heap_of, grants_of};
+ghost use Rattle.ps_core_laws.specs.Stores.{numbers};
+ghost use Rattle.ps_core_laws.specs.Collected.{IsCollected, IsExact};
+ghost use Rattle.ps_core_laws.specs.Flips.{AfterFlip};
 ghost use Rattle.ps_table.specs.Events.{OnlyLooks, gc_did_all, root_looks};
 ghost use Rattle.ps_table.specs.Mirrored.{Mirrors, Sits};
 ghost use Rattle.ps_table.specs.Shown.{AreJoined, BothDo, BothRun, both_did};

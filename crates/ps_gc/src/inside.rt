@@ -5,7 +5,7 @@ ghost use Rattle.std.specs.Prelude.{◌≡◌, true, false};
 use crate::endings::{hand, joined_end_cycle, joined_whole_cycle};
 use crate::flips::Flip;
 use crate::space::CollectedSpace;
-use ps_core_flips::sides::Collects;
+use ps_core_laws::sides::Collects;
 use ps_table::Words;
 use ps_word::words::Word;
 

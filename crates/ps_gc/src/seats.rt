@@ -7,15 +7,15 @@ ghost use Rattle.std.specs.Prelude.{◌≡◌, ◌-◌, ◌^◌, ◌∷◌, min,
 ghost use Rattle.ps_core_laws.specs.Runs.{IsSpace};
 ghost use Rattle.ps_core_machine.specs.declared.events.Event.TheVariants.{VmLoad};
 ghost use Rattle.ps_core_machine.specs.Steps.{start};
-ghost use Rattle.ps_core_memory.specs.Memory.{heap_of, grants_of};
+ghost use Rattle.ps_core_laws.specs.Memory.{heap_of, grants_of};
 ghost use Rattle.ps_table.specs.Events.{did_all, head_loads};
 
 use crate::Collector;
 use crate::copiers::Copier;
 use crate::naming::Naming;
-use ps_core_flips::collected::Counts;
-use ps_core_flips::sides::LoggedMemory;
-use ps_core_memory::Closing;
+use ps_core_laws::Closing;
+use ps_core_laws::collected::Counts;
+use ps_core_laws::sides::LoggedMemory;
 use ps_language::kinds::Kind;
 use ps_mem::{Memory, NeedFault, Permit};
 use ps_record::SLOTS;

@@ -8,14 +8,14 @@ ghost use Rattle.ps_mem.specs.Bounded.{bounded_space};
 ghost use Rattle.ps_core_machine.specs.Objects.{all_filled};
 ghost use Rattle.ps_core_machine.specs.Steps.{is_open, knows_open};
 ghost use Rattle.ps_core_laws.specs.Runs.{IsSpace};
-ghost use Rattle.ps_core_memory.specs.Memory.{heap_of, grants_of};
+ghost use Rattle.ps_core_laws.specs.Memory.{heap_of, grants_of};
 ghost use Rattle.ps_table.specs.Mirrored.{KeepsVm, Sits};
 ghost use Rattle.ps_gc.specs.Keeps.{taken_in_all};
 
 use crate::collector::{ACTIONS_A_LOOK, Collector, Drained};
-use ps_core_flips::collected::{CollectedMemory, Counts};
-use ps_core_flips::sides::LoggedMemory;
-use ps_core_memory::Closing;
+use ps_core_laws::Closing;
+use ps_core_laws::collected::{CollectedMemory, Counts};
+use ps_core_laws::sides::LoggedMemory;
 use ps_language::kinds::Kind;
 use ps_mem::{Memory, NeedFault, Permit};
 use ps_record::SLOTS;

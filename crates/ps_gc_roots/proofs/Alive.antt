@@ -44,7 +44,7 @@ use Rattle.ps_gc_roots.specs.Roots.{literal, roots_of_source, roots_of_frame, ro
 use Rattle.ps_gc_roots.specs.Roots.{roots_of_member, roots_in}
 use Rattle.ps_gc_roots.proofs.Literals.{content-literal, value-literal, address-stands}
 use Rattle.ps_gc_roots.proofs.Framing.{both, fore, rear, array-form, text-form}
-use Rattle.ps_core_flips.specs.Reached.{IsReached, by_root, by_field}
+use Rattle.ps_core_laws.specs.Reached.{IsReached, by_root, by_field}
 use Rattle.ps_gc_roots.proofs.Named.{Names, AllName, natural-names, NamesWhole, kind_cases, value-names, values-name}
 use Rattle.ps_gc_roots.proofs.Named.{body-names}
 

@@ -27,7 +27,7 @@ use Rattle.ps_gc_roots.specs.Roots.{roots_of_member, roots_in}
 use Rattle.ps_gc_roots.specs.Renamed.{Renaming, renamed_address, renamed_array, renamed_text, renamed_source}
 use Rattle.ps_gc_roots.specs.Renamed.{renamed_frame, renamed_course, renamed_context, renamed_member, renamed_members}
 use Rattle.ps_gc_roots.proofs.Literals.{content-literal}
-use Rattle.ps_core_flips.specs.Reached.{IsReached, by_root, by_field, AreReached}
+use Rattle.ps_core_laws.specs.Reached.{IsReached, by_root, by_field, AreReached}
 
 -- the second names what the first names, if that names anything
 abbrev Alike : (x y : Word) → Type 0

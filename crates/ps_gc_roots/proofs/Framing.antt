@@ -14,8 +14,8 @@ use Rattle.ps_mem.specs.References.{StandsAs, words_for}
 use Rattle.ps_mem.specs.Meaning.{part_of}
 use Rattle.ps_mem.specs.Shows.{IsValue, AreValues}
 use Rattle.ps_mem.specs.Stands.{IsAddressed}
-use Rattle.ps_core_flips.specs.Moves.{Forwarding, IsMovedTo, HasReplica, HaveReplicas, moved_word}
-use Rattle.ps_core_flips.proofs.Words.{IsValue-moved, IsWithin-moved, value-moved}
+use Rattle.ps_core_laws.specs.Moves.{Forwarding, IsMovedTo, HasReplica, HaveReplicas, moved_word}
+use Rattle.ps_core_laws.proofs.Words.{IsValue-moved, IsWithin-moved, value-moved}
 use Rattle.ps_ops_control.specs.declared.frames.Source.{Source}
 use Rattle.ps_ops_control.specs.declared.frames.Source.TheVariants.{Program, Text as TextOf}
 use Rattle.ps_ops_control.specs.declared.frames.Frame.{Frame}

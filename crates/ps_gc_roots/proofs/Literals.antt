@@ -13,8 +13,8 @@ use Rattle.ps_mem.specs.References.{StandsAs, IsKnown, IsKnownContent}
 use Rattle.ps_mem.specs.Shows.{IsValue}
 use Rattle.ps_mem.specs.Stands.{IsAddressed}
 use Rattle.ps_mem.proofs.StandsLemmas.{address-below}
-use Rattle.ps_core_flips.specs.Moves.{Forwarding, IsMovedTo, HasReplica, moved_word}
-use Rattle.ps_core_flips.proofs.Words.{placed, place, content-moved, birth_at-moved, IsValue-moved}
+use Rattle.ps_core_laws.specs.Moves.{Forwarding, IsMovedTo, HasReplica, moved_word}
+use Rattle.ps_core_laws.proofs.Words.{placed, place, content-moved, birth_at-moved, IsValue-moved}
 use Rattle.ps_gc_roots.specs.Roots.{literal}
 use Rattle.ps_gc_roots.specs.Renamed.{renamed_address}
 

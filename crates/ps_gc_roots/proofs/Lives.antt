@@ -29,7 +29,7 @@ use Rattle.ps_mem.proofs.StandsLemmas.{address-below}
 use Rattle.ps_ctx_table.specs.Desks.{Desk, IsWorld, IsSteady}
 use Rattle.ps_ctx_table.proofs.Reached.{reachable-stands}
 use Rattle.ps_gc_roots.specs.Roots.{roots_in}
-use Rattle.ps_core_flips.specs.Reached.{AreReached}
+use Rattle.ps_core_laws.specs.Reached.{AreReached}
 use Rattle.ps_gc_roots.proofs.Alive.{IsAlive, IsOwned, reached-alive}
 use Rattle.ps_gc_roots.proofs.Named.{kind_cases}
 use Rattle.ps_gc_roots.proofs.Counted.{HasJust, just_one, just_two, AreJust, words-just}

@@ -14,9 +14,9 @@ use Rattle.ps_mem.specs.Heap.{Heap, Grants, birth_at}
 use Rattle.ps_mem.specs.References.{StandsAs}
 use Rattle.ps_mem.specs.Shows.{IsValue, AreValues}
 use Rattle.ps_mem.specs.Stands.{IsAddressed}
-use Rattle.ps_core_flips.specs.Moves.{Forwarding, IsMovedTo, HasReplica, HaveReplicas, moved_word}
-use Rattle.ps_core_flips.proofs.Words.{AreValues-moved, AreWithin-moved, values_of-moved}
-use Rattle.ps_core_flips.proofs.Objects.{sound-moved, shown_all-moved}
+use Rattle.ps_core_laws.specs.Moves.{Forwarding, IsMovedTo, HasReplica, HaveReplicas, moved_word}
+use Rattle.ps_core_laws.proofs.Words.{AreValues-moved, AreWithin-moved, values_of-moved}
+use Rattle.ps_core_laws.proofs.Objects.{sound-moved, shown_all-moved}
 use Rattle.ps_ops_control.specs.declared.frames.Frame.{Frame}
 use Rattle.ps_ops_state.specs.declared.lent.Context.{Context}
 use Rattle.ps_ops_state.specs.Lent.{IsErrorDictionary, IsShown, IsGood}

@@ -7,9 +7,10 @@ use Rattle.ps_mem.specs.Heap.{Heap, Grants}
 use Rattle.ps_mem.specs.Shows.{AreValues}
 use Rattle.ps_mem.specs.Stands.{IsAddressed}
 use Rattle.ps_word.specs.declared.words.Word.{Word}
-use Rattle.ps_core_flips.specs.Collected.{IsCollected}
-use Rattle.ps_core_flips.specs.Moves.{Forwarding, IsMovedTo, HaveReplicas, moved_word}
-use Rattle.ps_core_flips.proofs.Objects.{sound-moved, shown_all-moved}
+use Rattle.ps_core_laws.specs.Collected.{IsCollected}
+use Rattle.ps_core_laws.specs.Moves.{Forwarding, IsMovedTo, HaveReplicas, moved_word}
+use Rattle.ps_core_laws.proofs.Objects.{sound-moved, shown_all-moved}
+use Rattle.ps_ops_state.specs.declared.lent.Shared.{Shared}
 use Rattle.ps_ops_state.specs.Lent.{IsShown}
 use Rattle.ps_ctx_table.specs.declared.members.Member.{Member}
 use Rattle.ps_ctx_table.specs.declared.contexts.Contexts.{Contexts}
@@ -183,37 +184,37 @@ keeps-then a b c first then = record {
 
 -- ---- contexts over a memory
 
-module _ (h now : Heap) (grants after : Grants) (before : Contexts) where
+module _ (h now : Heap) (grants after : Grants) (shared : Shared) (before : Contexts) where
   -- what a collector is handed
   pub over-values : (words : List Word) → now ≡ h → words ≡ roots_in before.table
-      → IsSteady (over h grants before) → IsAddressed h → AreValues now words
+      → IsSteady (over h grants shared before) → IsAddressed h → AreValues now words
   over-values words same are steady addressed =
       subst (λ heap. AreValues heap words) (sym same)
       (subst (AreValues h) (sym are)
-      (members-values (over h grants before) addressed before.table steady.members))
+      (members-values (over h grants shared before) addressed before.table steady.members))
 
   -- nothing has moved
   pub over-granted : now ≡ h → (calling : Option Calling)
-      → KeepsWorlds (held (over h grants before) calling) (held (over now after before) calling)
+      → KeepsWorlds (held (over h grants shared before) calling) (held (over now after shared before) calling)
   over-granted same calling =
-      subst (λ heap. KeepsWorlds (held (over h grants before) calling)
-      (held (over heap after before) calling)) (sym same)
-      (granted-keeps (over h grants before) after calling)
+      subst (λ heap. KeepsWorlds (held (over h grants shared before) calling)
+      (held (over heap after shared before) calling)) (sym same)
+      (granted-keeps (over h grants shared before) after calling)
 
   -- the memory was moved with what the roots refer to, which are renamed
-  pub over-moved : (roots words : List Word) (contexts : Contexts) → IsSteady (over h grants before)
+  pub over-moved : (roots words : List Word) (contexts : Contexts) → IsSteady (over h grants shared before)
       → IsAddressed h → roots ≡ roots_in before.table → IsCollected h now roots words
       → ((rename : Renaming) → words ≡ map rename (roots_in before.table)
       → contexts.table ≡ renamed_members rename before.table)
-      → contexts.shared ≡ before.shared → contexts.has_faulted ≡ before.has_faulted
+      → contexts.has_faulted ≡ before.has_faulted
       → (calling : Option Calling)
-      → KeepsWorlds (held (over h grants before) calling) (held (over now after contexts) calling)
-  over-moved roots words contexts steady addressed are collected table shared faulted calling =
+      → KeepsWorlds (held (over h grants shared before) calling) (held (over now after shared contexts) calling)
+  over-moved roots words contexts steady addressed are collected table faulted calling =
       let forward = collected.forward in
       let renamed = table (moved_word forward)
       (collected.are ∙ ap (map (moved_word forward)) are) in
-      let same : over now after contexts ≡ moved_desk (over h grants before) now after forward =
-      λ i. desk now after (renamed i) (shared i) (faulted i) in
-      subst (λ d. KeepsWorlds (held (over h grants before) calling) (held d calling)) (sym same)
-      (moved-keeps (over h grants before) now after forward collected.moves addressed
+      let same : over now after shared contexts ≡ moved_desk (over h grants shared before) now after forward =
+      λ i. desk now after (renamed i) shared (faulted i) in
+      subst (λ d. KeepsWorlds (held (over h grants shared before) calling) (held d calling)) (sym same)
+      (moved-keeps (over h grants shared before) now after forward collected.moves addressed
       (subst (HaveReplicas forward) are collected.complete) calling steady)

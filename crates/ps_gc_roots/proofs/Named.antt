@@ -21,7 +21,7 @@ use Rattle.ps_mem.specs.Index.{pairs_of_words, hash_of, hashes_of, index_of, ind
 use Rattle.ps_mem.specs.Meaning.{what_of, value_of}
 use Rattle.ps_mem.specs.References.{StandsAs, IsKnown, IsKnownContent}
 use Rattle.ps_mem.specs.Shows.{IsValue, AreValues, IsNatural, words_of_pairs, pair_of, ShowsDictionary}
-use Rattle.ps_core_memory.proofs.Flipped.{all-index, position-plain}
+use Rattle.ps_core_laws.proofs.Flipped.{all-index, position-plain}
 use Rattle.ps_gc_roots.proofs.Framing.{both, fore, rear}
 
 -- the word names something of which this holds, if it names anything

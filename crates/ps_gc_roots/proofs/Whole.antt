@@ -4,9 +4,10 @@ use Rattle.ps_language.specs.Live.{Live}
 use Rattle.ps_language.specs.World.{World}
 use Rattle.ps_mem.specs.Heap.{Heap, Standing, Grants, object_at}
 use Rattle.ps_mem.specs.Stands.{IsAddressed}
-use Rattle.ps_core_flips.specs.Moves.{Forwarding, IsMovedTo, HaveReplicas, moved_word}
-use Rattle.ps_core_flips.specs.Collected.{IsExact}
+use Rattle.ps_core_laws.specs.Moves.{Forwarding, IsMovedTo, HaveReplicas, moved_word}
+use Rattle.ps_core_laws.specs.Collected.{IsExact}
 use Rattle.ps_word.specs.declared.words.Word.{Word}
+use Rattle.ps_ops_state.specs.declared.lent.Shared.{Shared}
 use Rattle.ps_ctx_table.specs.declared.contexts.Contexts.{Contexts}
 use Rattle.ps_ctx.specs.Calls.{over}
 use Rattle.ps_gc_roots.specs.Moved.{UsesLive}
@@ -15,8 +16,8 @@ use Rattle.ps_gc_roots.specs.Roots.{roots_in}
 use Rattle.ps_gc_roots.specs.Renamed.{moved_desk}
 use Rattle.ps_gc_roots.proofs.Membering.{members-format}
 use Rattle.ps_gc_roots.proofs.Moving.{moved-keeps}
-use Rattle.ps_core_flips.specs.Reached.{MovesReached, AreReached}
-use Rattle.ps_core_flips.proofs.Reached.{are-reached}
+use Rattle.ps_core_laws.specs.Reached.{MovesReached, AreReached}
+use Rattle.ps_core_laws.proofs.ReachedObjects.{are-reached}
 use Rattle.ps_gc_roots.proofs.Back.{are-back}
 use Rattle.ps_gc_roots.proofs.Lives.{lives}
 
@@ -50,11 +51,12 @@ module _ (d : Desk) (now : Heap) (grants : Grants) (forward : Forwarding)
       is.identifier is.context is.found is.first)
 
 -- over a memory that was moved so
-pub over-lives : (h now : Heap) (grants : Grants) (before : Contexts) (roots words : List Word)
-    → IsSteady (over h grants before) → IsAddressed h → roots ≡ roots_in before.table
-    → IsExact h now roots words → (w : World) → IsWorld (over h grants before) w → UsesLive now w
-over-lives h now grants before roots words steady addressed are exact w at =
+pub over-lives : (h now : Heap) (grants : Grants) (shared : Shared) (before : Contexts)
+    (roots words : List Word) → IsSteady (over h grants shared before) → IsAddressed h → roots ≡ roots_in before.table
+    → IsExact h now roots words → (w : World) → IsWorld (over h grants shared before) w
+    → UsesLive now w
+over-lives h now grants shared before roots words steady addressed are exact w at =
     let c = exact.collected in
-    whole-lives (over h grants before) now grants c.forward c.moves
+    whole-lives (over h grants shared before) now grants c.forward c.moves
     (subst (HaveReplicas c.forward) are c.complete)
     (subst (MovesReached h c.forward) are exact.just) addressed steady w at

@@ -7,7 +7,7 @@ use Rattle.ps_word.specs.declared.values.Content.TheVariants.{Array, Text, Dicti
 use Rattle.ps_word.specs.declared.values.Content.TheVariants.{Condition}
 use Rattle.ps_word.specs.Format.{address_in}
 use Rattle.ps_mem.specs.Heap.{Heap, Grants}
-use Rattle.ps_core_flips.specs.Moves.{Forwarding, moved_word}
+use Rattle.ps_core_laws.specs.Moves.{Forwarding, moved_word}
 use Rattle.ps_ops_control.specs.declared.frames.Source.{Source}
 use Rattle.ps_ops_control.specs.declared.frames.Source.TheVariants.{Program, Text as TextOf}
 use Rattle.ps_ops_control.specs.declared.frames.Frame.{Frame}

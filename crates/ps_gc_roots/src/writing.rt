@@ -214,7 +214,6 @@ pub fn write_roots(contexts: &mut Contexts, roots: &[Word])
     requires { length roots.now ≡ length (roots_in contexts.old.table) }
     ensures table { (rename : Renaming) → roots.now ≡ map rename (roots_in contexts.old.table)
         → contexts.new.table ≡ renamed_members rename contexts.old.table }
-    ensures shared { contexts.new.shared ≡ contexts.old.shared }
     ensures faulted { contexts.new.has_faulted ≡ contexts.old.has_faulted }
 {
     write_members(&mut contexts.table, roots);

@@ -31,7 +31,7 @@ use Rattle.ps_ops_control.specs.declared.frames.Frame.{Frame}
 use Rattle.ps_ops_control.specs.declared.frames.Frame.TheVariants.{Procedure}
 use Rattle.ps_ops_control.specs.Ahead.{HasRoom, OnLeft, ControlsAhead, done_ahead}
 use Rattle.ps_ops_control.specs.Controls.{stacks, IsReadyFor, Controls}
-use Rattle.ps_ops_state.specs.declared.lent.Trial.{Trial}
+use Rattle.ps_ops_state.specs.declared.lent.Attempt.{Attempt}
 use Rattle.ps_ops_state.specs.Acts.{Asked, Acts, nothing_asked}
 use Rattle.ps_ops_operands.specs.Changes.{Observes}
 use Rattle.ps_ops_operands.proofs.Ready.{ready_from}
@@ -78,12 +78,12 @@ module _ (old new : List Word) (row : List Value → Outcome (List Value)) where
       → Does row result old new → AreFrom old new → ActsAlone operator (is_ok result) old new
   by_result operator is none (Ok _) did from = (
     tt,
-    λ l trial good room.
-        subst (λ (r : Row). Acts (asked_of operator) r trial (Ok tt) (record l { operands = old })
+    λ l attempt good room.
+        subst (λ (r : Row). Acts (asked_of operator) r attempt (Ok tt) (record l { operands = old })
         (record l { operands = new })) (sym is)
-        (subst (λ (asks : Scene → Asked). Acts asks (operand_row row) trial (Ok tt)
+        (subst (λ (asks : Scene → Asked). Acts asks (operand_row row) attempt (Ok tt)
         (record l { operands = old }) (record l { operands = new })) (sym none)
-        (does_acts (record l { operands = old }) good trial row (Ok tt) new did from)),
+        (does_acts (record l { operands = old }) good attempt row (Ok tt) new did from)),
   )
   by_result operator is none (Err error) did from =
       (unchanged error (row (values_of (λ x. 0) [] old)) (λ x. 0) [] (did.agrees (λ x. 0) []), tt)
@@ -117,16 +117,16 @@ module _ (old new : List Word) where
       → ActsAlone Copy (is_ok result) old new
   counted top first number other (Ok _) did from = (
     tt,
-    λ l trial good room.
+    λ l attempt good room.
         let before : Lent = record l { operands = old } in
         let after : Lent = record l { operands = new } in
-        asked_acts trial (Ok tt) before after copy_asks sequence_copy_asks (changing_row copy_row)
+        asked_acts attempt (Ok tt) before after copy_asks sequence_copy_asks (changing_row copy_row)
         (copy_other_asks before top first other)
-        (asked_acts trial (Ok tt) before after sequence_copy_asks nothing_asked
+        (asked_acts attempt (Ok tt) before after sequence_copy_asks nothing_asked
         (changing_row copy_row) (copy_counts_asks before top first number)
-        (effect_acts trial (Ok tt) before after nothing_asked (changing_row copy_row)
+        (effect_acts attempt (Ok tt) before after nothing_asked (changing_row copy_row)
         (operand_row copy_number_row) (copy_counts before top first number)
-        (does_acts before good trial copy_number_row (Ok tt) new did from))),
+        (does_acts before good attempt copy_number_row (Ok tt) new did from))),
   )
   counted top first number other (Err error) did from = (
     unchanged old new copy_number_row error (copy_number_row (values_of (λ x. 0) [] old))
@@ -187,13 +187,13 @@ alone_over old new row {operator} {which} {acts} {came} same is none goes done k
         → (acts ≡ false → new ≡ old) → ActsAlone which acts old new
     by true done kept = (
       tt,
-      λ l trial good room.
+      λ l attempt good room.
           let before : Lent = record l { operands = old } in
-          subst (λ (r : Row). Acts (asked_of which) r trial (Ok tt) before
+          subst (λ (r : Row). Acts (asked_of which) r attempt (Ok tt) before
           (record l { operands = new })) (sym is)
-          (subst (λ (asks : Scene → Asked). Acts asks (reading_row row) trial (Ok tt) before
+          (subst (λ (asks : Scene → Asked). Acts asks (reading_row row) attempt (Ok tt) before
           (record l { operands = new })) (sym none)
-          (observes_acts before good trial row (Ok tt) l.heap l.grants new refl refl
+          (observes_acts before good attempt row (Ok tt) l.heap l.grants new refl refl
           (done refl l.heap) (ready_from l.heap old new (held good) from))),
     )
     by false done kept = (kept refl, tt)
@@ -212,18 +212,18 @@ pub ahead : {operator which : Operator} (row : List Value → Scene → Outcome 
 ahead {operator} {which} row came old new same is none kept did =
     subst (λ (o : Operator). ActsAhead o came old new) (sym same) (by came kept did)
   where
-    acted : (l : Lent) (trial : Trial) (frames : List Frame)
+    acted : (l : Lent) (attempt : Attempt) (frames : List Frame)
         → IsGood (record l { operands = old })
         → Controls row (Ok tt) l.heap (length l.program) (stacks old l.frames) (stacks new frames)
-        → Acts (asked_of which) (row_now which) trial (Ok tt) (record l { operands = old })
+        → Acts (asked_of which) (row_now which) attempt (Ok tt) (record l { operands = old })
         (record l { operands = new; frames = frames })
-    acted l trial frames good controls =
+    acted l attempt frames good controls =
         let before : Lent = record l { operands = old } in
         let after : Lent = record l { operands = new; frames = frames } in
-        subst (λ (r : Row). Acts (asked_of which) r trial (Ok tt) before after) (sym is)
-        (subst (λ (asks : Scene → Asked). Acts asks (scene_row (scene_effect row)) trial (Ok tt)
+        subst (λ (r : Row). Acts (asked_of which) r attempt (Ok tt) before after) (sym is)
+        (subst (λ (asks : Scene → Asked). Acts asks (scene_row (scene_effect row)) attempt (Ok tt)
         before after) (sym none)
-        (controls_acts before good new frames trial row (Ok tt) controls tt))
+        (controls_acts before good new frames attempt row (Ok tt) controls tt))
 
     by : (came : Ahead) → OnLeft came (new ≡ old)
         → ((h : Heap) (size : ℕ) (frames : List Frame) → HasRoom 1 came frames
@@ -232,14 +232,14 @@ ahead {operator} {which} row came old new same is none kept did =
         → ActsAhead which came old new
     by (Enters body) kept did = (
       tt,
-      λ l trial good room.
-          acted l trial (Procedure body ∷ l.frames) good
+      λ l attempt good room.
+          acted l attempt (Procedure body ∷ l.frames) good
           (did l.heap (length l.program) l.frames room (ready good)),
     )
     by Unentered kept did = (
       tt,
-      λ l trial good room.
-          acted l trial l.frames good
+      λ l attempt good room.
+          acted l attempt l.frames good
           (did l.heap (length l.program) l.frames room (ready good)),
     )
     by Left kept did = (kept, tt)
@@ -247,29 +247,29 @@ ahead {operator} {which} row came old new same is none kept did =
 -- ---- as a step
 
 -- with nothing in hand
-pub stepped : (operator : Operator) (trial : Trial) (before after : Lent)
-    → Acts (asked_of operator) (row_now operator) trial (Ok tt) before after
-    → TurnsWith [] [] (operated_asks operator_asks operator) (operated_turn operator) trial
+pub stepped : (operator : Operator) (attempt : Attempt) (before after : Lent)
+    → Acts (asked_of operator) (row_now operator) attempt (Ok tt) before after
+    → TurnsWith [] [] (operated_asks operator_asks operator) (operated_turn operator) attempt
     (Ok Goes) before after
-stepped operator trial before after acts =
+stepped operator attempt before after acts =
     turns_over IsShown (IsShownWith [] []) (operated_asks operator_asks operator)
-    (operated_asks operator_asks operator) (operated_turn operator) (operated_turn operator) trial
+    (operated_asks operator_asks operator) (operated_turn operator) (operated_turn operator) attempt
     (Ok Goes) before after (λ s held. held.shown) (λ s held. refl) (λ s held. refl)
-    (goes_on operator trial before after acts)
+    (goes_on operator attempt before after acts)
 
 pub enters_alone : (operator : Operator) (old new : List Word) (came : Ahead)
     → ActsAhead operator came old new
     → EntersAlone [] (operated_asks operator_asks operator) (operated_turn operator) came old new
 enters_alone operator old new (Enters body) acts = (
   tt,
-  λ l trial good none room.
-      stepped operator trial (record l { operands = old })
-      (record l { operands = new; frames = Procedure body ∷ l.frames }) (acts.1 l trial good room),
+  λ l attempt good none room.
+      stepped operator attempt (record l { operands = old })
+      (record l { operands = new; frames = Procedure body ∷ l.frames }) (acts.1 l attempt good room),
 )
 enters_alone operator old new Unentered acts = (
   tt,
-  λ l trial good none room.
-      stepped operator trial (record l { operands = old }) (record l { operands = new })
-      (acts.1 l trial good room),
+  λ l attempt good none room.
+      stepped operator attempt (record l { operands = old }) (record l { operands = new })
+      (acts.1 l attempt good room),
 )
 enters_alone operator old new Left acts = (acts.0, tt)

@@ -21,7 +21,7 @@ use Rattle.ps_ops_control.specs.declared.frames.Cause.{Cause}
 use Rattle.ps_ops_control.specs.Turns.{cause_of}
 use Rattle.ps_ops_state.specs.declared.breaks.Break.{Break}
 use Rattle.ps_ops_state.specs.declared.breaks.Break.TheVariants.{Unwinds, Raises, NotMade}
-use Rattle.ps_ops_state.specs.declared.lent.Trial.{Trial}
+use Rattle.ps_ops_state.specs.declared.lent.Attempt.{Attempt}
 use Rattle.ps_ops_state.specs.Lent.{Lent, scene_of, around_of, IsGood}
 use Rattle.ps_ops_state.specs.Acts.{Stays, Acts, effect_in}
 use Rattle.ps_ops_state.proofs.Forming.{cut_names}
@@ -52,22 +52,22 @@ left_effect (scene_row does) left around scene = absurd (true≢false (sym left)
 
 -- ---- for every store
 
-module _ (operator : Operator) (trial : Trial) (l : Lent) where
+module _ (operator : Operator) (attempt : Attempt) (l : Lent) where
   abbrev effect_at : Store → Effect
   effect_at store = effect_in (row_now operator) l store
 
   abbrev Does : Result Unit Break → Lent → Type 0
-  Does result new = Acts (asked_of operator) (row_now operator) trial result l new
+  Does result new = Acts (asked_of operator) (row_now operator) attempt result l new
 
   abbrev TurnsTo : Result Turned Reason → Lent → Type 0
   TurnsTo result new =
-      Turns (operated_asks operator_asks operator) (operated_turn operator) trial result l new
+      Turns (operated_asks operator_asks operator) (operated_turn operator) attempt result l new
 
   pub goes_on : (new : Lent) → Does (Ok tt) new → TurnsTo (Ok Goes) new
   unfolding operated
   goes_on new acts = record {
     meets = λ store shown.
-        goes_as operator trial l store new (effect_at store) _ refl (acts.meets store shown).did
+        goes_as operator attempt l store new (effect_at store) _ refl (acts.meets store shown).did
         (acts.meets store shown).logs;
     good = acts.good;
     keeps = acts.keeps;
@@ -82,7 +82,7 @@ module _ (operator : Operator) (trial : Trial) (l : Lent) where
   unfolding operated
   not_made reason new acts = record {
     meets = λ store shown.
-        not_made_as operator trial l store reason new (effect_at store) _ refl
+        not_made_as operator attempt l store reason new (effect_at store) _ refl
         (acts.meets store shown).did (acts.meets store shown).logs;
     good = acts.good;
     keeps = acts.keeps;
@@ -102,17 +102,17 @@ module _ (operator : Operator) (trial : Trial) (l : Lent) where
         lasts = lasts-same store;
         leaves = refl;
         is = λ machine printed address.
-            (λ i. after_turn trial.refused machine (effect_turn operator (scene_of l store)
+            (λ i. after_turn attempt.refused machine (effect_turn operator (scene_of l store)
             (left_effect (row_now operator) left (around_of l) (scene_of l store) i)))
             ∙ (λ i. leaves_to_world (calling_of operator)
             (record (with_scene (scene_of l store) running machine) { printed = printed i }));
       };
-      logs = logs-same _ l.grants trial.slot;
+      logs = logs-same _ l.grants attempt.slot;
     };
     good = good;
     keeps = keeps-same l.heap;
     stays = stays_as l l refl refl refl refl (omega arith) (at_least-same _);
-    logs = logs-same _ l.grants trial.slot;
+    logs = logs-same _ l.grants attempt.slot;
     framed = tt;
     under_way = tt;
   }
@@ -120,34 +120,34 @@ module _ (operator : Operator) (trial : Trial) (l : Lent) where
   -- the rest is another step
   module _ (mid new : Lent) where
     breaks_on : (cause : Cause) (turned : Turned) → Does (Err (Unwinds cause)) mid
-        → Turns nothing_more (break_turn (cause_of cause)) trial (Ok turned) mid new
+        → Turns nothing_more (break_turn (cause_of cause)) attempt (Ok turned) mid new
         → TurnsTo (Ok turned) new
     unfolding operated
     breaks_on cause turned acts turns = record {
       meets = λ store shown.
-          breaks_as operator trial l store shown mid new acts.logs acts.stays cause turned
+          breaks_as operator attempt l store shown mid new acts.logs acts.stays cause turned
           (effect_at store) _ (acts.meets store shown).did turns.meets;
       good = turns.good;
       keeps = Keeps-then l.heap mid.heap new.heap acts.keeps turns.keeps;
       stays = stays_then l mid new acts.stays turns.stays;
-      logs = logs_then 0 most_records most_records l.grants mid.grants new.grants trial.slot
+      logs = logs_then 0 most_records most_records l.grants mid.grants new.grants attempt.slot
           (omega arith) acts.logs turns.logs;
       framed = tt;
       under_way = turns.under_way;
     }
 
     not_broken : (cause : Cause) (reason : Reason) → Does (Err (Unwinds cause)) mid
-        → Turns nothing_more (break_turn (cause_of cause)) trial (Err reason) mid new
+        → Turns nothing_more (break_turn (cause_of cause)) attempt (Err reason) mid new
         → TurnsTo (Err reason) new
     unfolding operated
     not_broken cause reason acts turns = record {
       meets = λ store shown.
-          unbroken_as operator trial l store shown mid new acts.logs acts.stays cause reason
+          unbroken_as operator attempt l store shown mid new acts.logs acts.stays cause reason
           (effect_at store) _ (acts.meets store shown).did turns.meets;
       good = turns.good;
       keeps = Keeps-then l.heap mid.heap new.heap acts.keeps turns.keeps;
       stays = stays_then l mid new acts.stays turns.stays;
-      logs = logs_then 0 0 0 l.grants mid.grants new.grants trial.slot (omega arith) acts.logs
+      logs = logs_then 0 0 0 l.grants mid.grants new.grants attempt.slot (omega arith) acts.logs
           turns.logs;
       framed = turns.framed ∙ acts.framed;
       under_way = tt;
@@ -155,23 +155,23 @@ module _ (operator : Operator) (trial : Trial) (l : Lent) where
 
     pub broken_on : (cause : Cause) (result : Result Turned Reason)
         → Does (Err (Unwinds cause)) mid
-        → Turns nothing_more (break_turn (cause_of cause)) trial result mid new
+        → Turns nothing_more (break_turn (cause_of cause)) attempt result mid new
         → TurnsTo result new
     broken_on cause (Ok turned) acts turns = breaks_on cause turned acts turns
     broken_on cause (Err reason) acts turns = not_broken cause reason acts turns
 
     pub raised_on : (error : ErrorName) (turned : Turned) → Does (Err (Raises error)) mid
-        → Turns nothing_more (operator_error operator error) trial (Ok turned) mid new
+        → Turns nothing_more (operator_error operator error) attempt (Ok turned) mid new
         → TurnsTo (Ok turned) new
     unfolding operated
     raised_on error turned acts turns = record {
       meets = λ store shown.
-          raised_as operator trial l store shown mid new acts.logs acts.stays error turned
+          raised_as operator attempt l store shown mid new acts.logs acts.stays error turned
           (effect_at store) _ refl (acts.meets store shown).did turns.meets;
       good = turns.good;
       keeps = Keeps-then l.heap mid.heap new.heap acts.keeps turns.keeps;
       stays = stays_then l mid new acts.stays turns.stays;
-      logs = logs_then 0 most_records most_records l.grants mid.grants new.grants trial.slot
+      logs = logs_then 0 most_records most_records l.grants mid.grants new.grants attempt.slot
           (omega arith) acts.logs turns.logs;
       framed = tt;
       under_way = turns.under_way;
@@ -180,7 +180,7 @@ module _ (operator : Operator) (trial : Trial) (l : Lent) where
     -- the names that it formed are taken back
     pub not_raised : IsGood l → (error : ErrorName) (reason : Reason)
         → Does (Err (Raises error)) mid
-        → Turns nothing_more (operator_error operator error) trial (Err reason) mid new
+        → Turns nothing_more (operator_error operator error) attempt (Err reason) mid new
         → (names : List (List ℕ)) → names ≡ l.names
         → TurnsTo (Err reason) (record new { names = names })
     unfolding operated
@@ -188,7 +188,7 @@ module _ (operator : Operator) (trial : Trial) (l : Lent) where
         subst (λ (ns : List (List ℕ)). TurnsTo (Err reason) (record new { names = ns }))
         (sym same) (record {
           meets = λ store shown.
-              unraised_as operator trial l store shown mid new acts.logs acts.stays error reason
+              unraised_as operator attempt l store shown mid new acts.logs acts.stays error reason
               (effect_at store) _ refl (acts.meets store shown).did turns.meets;
           good = record {
             sound = turns.good.sound;
@@ -202,7 +202,7 @@ module _ (operator : Operator) (trial : Trial) (l : Lent) where
           };
           keeps = Keeps-then l.heap mid.heap new.heap acts.keeps turns.keeps;
           stays = unnamed_stays;
-          logs = logs_then 0 0 0 l.grants mid.grants new.grants trial.slot (omega arith) acts.logs
+          logs = logs_then 0 0 0 l.grants mid.grants new.grants attempt.slot (omega arith) acts.logs
               turns.logs;
           framed = turns.framed ∙ acts.framed;
           under_way = tt;

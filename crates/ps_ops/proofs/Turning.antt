@@ -19,7 +19,7 @@ use Rattle.ps_ops_control.specs.declared.frames.Cause.{Cause}
 use Rattle.ps_ops_control.specs.Turns.{cause_of}
 use Rattle.ps_ops_state.specs.declared.breaks.Break.{Break}
 use Rattle.ps_ops_state.specs.declared.breaks.Break.TheVariants.{Unwinds, Raises, NotMade}
-use Rattle.ps_ops_state.specs.declared.lent.Trial.{Trial}
+use Rattle.ps_ops_state.specs.declared.lent.Attempt.{Attempt}
 use Rattle.ps_ops_state.specs.Lent.{Lent, Rooms, rooms_of, scene_of, IsShown}
 use Rattle.ps_ops_state.specs.Acts.{Asked, Needs, no_rooms, LacksRooms, needs_of_refused, needs_as, lacks, names_formed}
 use Rattle.ps_ops_state.specs.Acts.{IsReason, Lasts, IsLeft, IsSame, IsRefused, Stays, ActsAs}
@@ -34,10 +34,10 @@ use Rattle.ps_ops.specs.Turns.{asked_by}
 -- ---- a step whose rest is another
 
 -- mid: once an operator broke off; the names that it formed are the only new ones
-module _ (trial : Trial) (l mid new : Lent) (names : List (List ℕ))
+module _ (attempt : Attempt) (l mid new : Lent) (names : List (List ℕ))
     (same : mid ≡ record l
     { grants = mid.grants; room = mid.room; names = names; scratch = mid.scratch })
-    (first : KeepsLogsWithin 0 l.grants mid.grants trial.slot) (stays : Stays l mid) where
+    (first : KeepsLogsWithin 0 l.grants mid.grants attempt.slot) (stays : Stays l mid) where
   abbrev named_as_before : Lent
   named_as_before = record new { names = l.names }
 
@@ -56,9 +56,9 @@ module _ (trial : Trial) (l mid new : Lent) (names : List (List ℕ))
 
   then_turned : (s t : Store) (whole rest : Turn) (turned : Turned) → Lasts s t
       → ((machine : Machine)
-      → after_turn trial.refused machine whole ≡ after_turn trial.refused machine rest)
-      → IsTurned trial.refused rest turned t mid new
-      → IsTurned trial.refused whole turned s l new
+      → after_turn attempt.refused machine whole ≡ after_turn attempt.refused machine rest)
+      → IsTurned attempt.refused rest turned t mid new
+      → IsTurned attempt.refused whole turned s l new
   then_turned s t whole rest turned lasts comes by = record {
     after = by.after;
     shown = by.shown;
@@ -71,9 +71,9 @@ module _ (trial : Trial) (l mid new : Lent) (names : List (List ℕ))
         comes machine ∙ by.is machine (printed ∙ sym same_printed) (address ∙ sym same_birth);
   }
 
-  then_logs : (most : ℕ) → KeepsLogsWithin most mid.grants new.grants trial.slot
-      → KeepsLogsWithin most l.grants new.grants trial.slot
-  then_logs most later = logs_then 0 most most l.grants mid.grants new.grants trial.slot (omega arith) first later
+  then_logs : (most : ℕ) → KeepsLogsWithin most mid.grants new.grants attempt.slot
+      → KeepsLogsWithin most l.grants new.grants attempt.slot
+  then_logs most later = logs_then 0 most most l.grants mid.grants new.grants attempt.slot (omega arith) first later
 
   then_same : IsSame mid new → IsSame l named_as_before
   then_same later =
@@ -85,8 +85,8 @@ module _ (trial : Trial) (l mid new : Lent) (names : List (List ℕ))
         scratch = new.scratch;
       }) same
 
-  closed_is : (b : Bool) → mid.grants.closed trial.slot ≡ b → l.grants.closed trial.slot ≡ b
-  closed_is b is = ap (λ (c : ℕ → Bool). c trial.slot) (sym first.closed) ∙ is
+  closed_is : (b : Bool) → mid.grants.closed attempt.slot ≡ b → l.grants.closed attempt.slot ≡ b
+  closed_is b is = ap (λ (c : ℕ → Bool). c attempt.slot) (sym first.closed) ∙ is
 
   less_room : l.room ≤ mid.room
   less_room =
@@ -105,13 +105,13 @@ module _ (trial : Trial) (l mid new : Lent) (names : List (List ℕ))
 
   -- of a rest that asks for no words
   then_reason : (rest whole : Needs) → AreNeedsWithin rest whole → rest.words ≡ 0
-      → (reason : Reason) → IsReason rest trial.slot mid new reason
-      → IsReason whole trial.slot l named_as_before reason
+      → (reason : Reason) → IsReason rest attempt.slot mid new reason
+      → IsReason whole attempt.slot l named_as_before reason
   then_reason rest whole within none reason why =
-      reason_more rest whole within trial.slot l named_as_before reason (before reason why)
+      reason_more rest whole within attempt.slot l named_as_before reason (before reason why)
     where
-      before : (reason : Reason) → IsReason rest trial.slot mid new reason
-          → IsReason rest trial.slot l named_as_before reason
+      before : (reason : Reason) → IsReason rest attempt.slot mid new reason
+          → IsReason rest attempt.slot l named_as_before reason
       before LogFull why = (closed_is false why.0, why.1)
       before LogClosed why = (why.0, subst IsTrue (sym (closed_is _ refl)) why.1)
       before (NeedSpace words) why =
@@ -159,7 +159,7 @@ no_words for_quit birth scene = refl
 
 -- ---- for a store
 
-module _ (operator : Operator) (trial : Trial) (l : Lent) (store : Store) where
+module _ (operator : Operator) (attempt : Attempt) (l : Lent) (store : Store) where
   abbrev before : Scene
   before = scene_of l store
 
@@ -171,24 +171,24 @@ module _ (operator : Operator) (trial : Trial) (l : Lent) (store : Store) where
 
   abbrev needs : Effect → Needs
   needs effect =
-      turn_needs trial.refused (asked_by effect before (asked_of operator)) birth before
+      turn_needs attempt.refused (asked_by effect before (asked_of operator)) birth before
       (whole effect)
 
   abbrev TurnsIn : Result Turned Reason → Effect → Lent → Type 0
-  TurnsIn result effect new = TurnsBy (needs effect) trial result (whole effect) store l new
+  TurnsIn result effect new = TurnsBy (needs effect) attempt result (whole effect) store l new
 
   abbrev DidIn : Result Unit Break → Effect → Bool → Lent → Type 0
   DidIn result effect lacking new =
-      ActsAs (needs_as (asked_of operator before) before effect lacking) trial.slot before result
+      ActsAs (needs_as (asked_of operator before) before effect lacking) attempt.slot before result
       effect lacking l new
 
   abbrev Lacking : Effect → Bool → Type 0
-  Lacking effect lacking = lacks trial.refused before effect ≡ lacking
+  Lacking effect lacking = lacks attempt.refused before effect ≡ lacking
 
   -- it goes on
   pub goes_as : (new : Lent) (effect : Effect) (lacking : Bool) → Lacking effect lacking
       → DidIn (Ok tt) effect lacking new
-      → KeepsLogsWithin (asked_of operator before).records l.grants new.grants trial.slot
+      → KeepsLogsWithin (asked_of operator before).records l.grants new.grants attempt.slot
       → TurnsIn (Ok Goes) effect new
   goes_as new (makes scene output) false enough did logs = record {
     did = record {
@@ -210,7 +210,7 @@ module _ (operator : Operator) (trial : Trial) (l : Lent) (store : Store) where
   -- it is not made
   pub not_made_as : (reason : Reason) (new : Lent) (effect : Effect) (lacking : Bool)
       → Lacking effect lacking → DidIn (Err (NotMade reason)) effect lacking new
-      → KeepsLogsWithin 0 l.grants new.grants trial.slot → TurnsIn (Err reason) effect new
+      → KeepsLogsWithin 0 l.grants new.grants attempt.slot → TurnsIn (Err reason) effect new
   not_made_as reason new (makes scene output) false enough did logs = record {
     did = (rw enough did.0, did.1);
     logs = logs;
@@ -218,7 +218,7 @@ module _ (operator : Operator) (trial : Trial) (l : Lent) (store : Store) where
   not_made_as reason new (makes scene output) true enough did logs = record {
     did = (
       rw enough (reason_more _ _ (unnoted_within (names_formed before scene)
-          (asked_of operator before) _ refl) trial.slot l new reason did.0),
+          (asked_of operator before) _ refl) attempt.slot l new reason did.0),
       did.1,
     );
     logs = logs;
@@ -230,21 +230,21 @@ module _ (operator : Operator) (trial : Trial) (l : Lent) (store : Store) where
   -- ---- it breaks off
 
   module _ (shown : IsShown l store) (mid new : Lent)
-      (first : KeepsLogsWithin 0 l.grants mid.grants trial.slot) (stays : Stays l mid) where
+      (first : KeepsLogsWithin 0 l.grants mid.grants attempt.slot) (stays : Stays l mid) where
     -- the rest, over each store that is shown then
     abbrev Rests : (Lent → Store → Turn) → Result Turned Reason → Type 0
     Rests rest result = (t : Store) → IsShown mid t
-        → TurnsBy (needs_in trial nothing_more rest mid t) trial result (rest mid t) t mid new
+        → TurnsBy (needs_in attempt nothing_more rest mid t) attempt result (rest mid t) t mid new
 
     abbrev breaks_mid : Cause → Lent → Store → Turn
     breaks_mid cause = break_turn (cause_of cause)
 
     broken_needs : (cause : Cause) (for : TheCause) (scene : Scene) → cause_of cause ≡ for
         → IsLeft store mid scene → IsSame l mid
-        → needs_in trial nothing_more (breaks_mid cause) mid scene.store
+        → needs_in attempt nothing_more (breaks_mid cause) mid scene.store
         ≡ needs (unwinds for scene)
     broken_needs cause for scene for_is left same =
-        (λ i. break_needs none_asked (same_birth trial l mid new l.names same first stays i) (for_is i)
+        (λ i. break_needs none_asked (same_birth attempt l mid new l.names same first stays i) (for_is i)
         (left.is i))
 
     pub breaks_as : (cause : Cause) (turned : Turned) (effect : Effect) (lacking : Bool)
@@ -253,15 +253,15 @@ module _ (operator : Operator) (trial : Trial) (l : Lent) (store : Store) where
     breaks_as cause turned (unwinds for scene) lacking did rests =
         let by = rests scene.store did.1.shown in
         record {
-          did = then_turned trial l mid new l.names did.2 first stays store scene.store
+          did = then_turned attempt l mid new l.names did.2 first stays store scene.store
               (breaks for scene) (breaks_mid cause mid scene.store) turned did.1.lasts
-              (λ machine. λ i. after_turn trial.refused machine
+              (λ machine. λ i. after_turn attempt.refused machine
               (breaks (sym did.0 i) (sym did.1.is i)))
               by.did;
           logs = subst (λ (n : Needs).
-              KeepsLogsWithin n.records l.grants new.grants trial.slot)
+              KeepsLogsWithin n.records l.grants new.grants attempt.slot)
               (broken_needs cause for scene did.0 did.1 did.2)
-              (then_logs trial l mid new l.names did.2 first stays _ by.logs);
+              (then_logs attempt l mid new l.names did.2 first stays _ by.logs);
         }
     breaks_as cause turned (makes scene output) true did rests = absurd did
     breaks_as cause turned (makes scene output) false did rests = absurd did
@@ -276,13 +276,13 @@ module _ (operator : Operator) (trial : Trial) (l : Lent) (store : Store) where
         let needs_are = broken_needs cause for scene did.0 did.1 did.2 in
         record {
           did = (
-            then_reason trial l mid new l.names did.2 first stays _ (needs (unwinds for scene))
+            then_reason attempt l mid new l.names did.2 first stays _ (needs (unwinds for scene))
                 (subst (AreNeedsWithin _) needs_are (needs_within-same _))
                 (no_words (cause_of cause) _ _) reason by.did.0,
             by.did.1 ∙ ap (λ (m : Lent). record m
                 { grants = new.grants; room = new.room; scratch = new.scratch }) did.2,
           );
-          logs = then_logs trial l mid new l.names did.2 first stays 0 by.logs;
+          logs = then_logs attempt l mid new l.names did.2 first stays 0 by.logs;
         }
     unbroken_as cause reason (makes scene output) true did rests = absurd did
     unbroken_as cause reason (makes scene output) false did rests = absurd did
@@ -306,12 +306,12 @@ module _ (operator : Operator) (trial : Trial) (l : Lent) (store : Store) where
         → error_asked (birth_at mid.heap mid.error_dictionary) error (scene_of mid store)
         ≡ needs (raises raised)
     raised_needs error raised is same =
-        λ i. error_asked (same_birth trial l mid new l.names same first stays i) (is i)
+        λ i. error_asked (same_birth attempt l mid new l.names same first stays i) (is i)
         (ap (λ (m : Lent). scene_of m store) same i)
 
     module _ (error : ErrorName) (scene : Scene) (output : List ℕ)
-        (enough : lacks_room trial.refused store scene.store ≡ true) (is : error ≡ VmError)
-        (refused : IsRefused trial.slot before l mid scene.names) where
+        (enough : lacks_room attempt.refused store scene.store ≡ true) (is : error ≡ VmError)
+        (refused : IsRefused attempt.slot before l mid scene.names) where
       refused_within : AreNeedsWithin
           (error_asked (birth_at mid.heap mid.error_dictionary) error (scene_of mid store))
           (needs (makes scene output))
@@ -319,7 +319,7 @@ module _ (operator : Operator) (trial : Trial) (l : Lent) (store : Store) where
         bytes = subst (λ (b : ℕ). b ≤ (error_asked birth VmError
             (record before { names = scene.names })).bytes)
             (sym (λ i. (error_asked
-            (same_birth trial l mid new scene.names refused.is first stays i) (is i)
+            (same_birth attempt l mid new scene.names refused.is first stays i) (is i)
             (refused.left.is i)).bytes)) (omega arith);
         names = omega arith;
         records = omega arith;
@@ -329,8 +329,8 @@ module _ (operator : Operator) (trial : Trial) (l : Lent) (store : Store) where
       })
 
       refused_comes : (machine : Machine)
-          → after_turn trial.refused machine (whole (makes scene output))
-          ≡ after_turn trial.refused machine (operator_error operator error mid store)
+          → after_turn attempt.refused machine (whole (makes scene output))
+          ≡ after_turn attempt.refused machine (operator_error operator error mid store)
       refused_comes machine = rw enough (λ i. erred machine (sym is i) (command_of operator)
           (sym refused.left.is i))
 
@@ -340,22 +340,22 @@ module _ (operator : Operator) (trial : Trial) (l : Lent) (store : Store) where
     raised_as error turned (raises raised) lacking enough did rests =
         let by = rests store (same_shown did.1) in
         record {
-          did = then_turned trial l mid new l.names did.1 first stays store store
+          did = then_turned attempt l mid new l.names did.1 first stays store store
               (whole (raises raised)) (operator_error operator error mid store) turned
               (lasts-same store)
               (λ machine. λ i. erred machine (sym did.0 i) (command_of operator)
               (sym (ap (λ (m : Lent). scene_of m store) did.1) i))
               by.did;
-          logs = then_logs trial l mid new l.names did.1 first stays most_records by.logs;
+          logs = then_logs attempt l mid new l.names did.1 first stays most_records by.logs;
         }
     raised_as error turned (makes scene output) true enough did rests =
         let by = rests store did.1.left.shown in
         record {
-          did = then_turned trial l mid new scene.names did.1.is first stays store store
+          did = then_turned attempt l mid new scene.names did.1.is first stays store store
               (whole (makes scene output)) (operator_error operator error mid store) turned
               (lasts-same store) (refused_comes error scene output enough did.0 did.1) by.did;
           logs = rw enough
-              (then_logs trial l mid new scene.names did.1.is first stays most_records by.logs);
+              (then_logs attempt l mid new scene.names did.1.is first stays most_records by.logs);
         }
     raised_as error turned (makes scene output) false enough did rests = absurd did
     raised_as error turned (unwinds for scene) lacking enough did rests = absurd did
@@ -369,24 +369,24 @@ module _ (operator : Operator) (trial : Trial) (l : Lent) (store : Store) where
         let by = rests store (same_shown did.1) in
         record {
           did = (
-            then_reason trial l mid new l.names did.1 first stays _ (needs (raises raised))
+            then_reason attempt l mid new l.names did.1 first stays _ (needs (raises raised))
                 (subst (AreNeedsWithin _) (raised_needs error raised did.0 did.1)
                 (needs_within-same _))
                 refl reason by.did.0,
-            then_same trial l mid new l.names did.1 first stays by.did.1,
+            then_same attempt l mid new l.names did.1 first stays by.did.1,
           );
-          logs = then_logs trial l mid new l.names did.1 first stays 0 by.logs;
+          logs = then_logs attempt l mid new l.names did.1 first stays 0 by.logs;
         }
     unraised_as error reason (makes scene output) true enough did rests =
         let by = rests store did.1.left.shown in
         record {
           did = (
-            then_reason trial l mid new scene.names did.1.is first stays _
+            then_reason attempt l mid new scene.names did.1.is first stays _
                 (needs (makes scene output))
                 (refused_within error scene output enough did.0 did.1) refl reason by.did.0,
-            then_same trial l mid new scene.names did.1.is first stays by.did.1,
+            then_same attempt l mid new scene.names did.1.is first stays by.did.1,
           );
-          logs = then_logs trial l mid new scene.names did.1.is first stays 0 by.logs;
+          logs = then_logs attempt l mid new scene.names did.1.is first stays 0 by.logs;
         }
     unraised_as error reason (makes scene output) false enough did rests = absurd did
     unraised_as error reason (unwinds for scene) lacking enough did rests = absurd did

@@ -7,7 +7,7 @@ use Rattle.ps_language.specs.World.{Frame}
 use Rattle.ps_ops_state.specs.declared.breaks.Break.{Break}
 use Rattle.ps_ops_state.specs.Acts.{Acts}
 use Rattle.ps_ops_state.specs.Lent.{Lent}
-use Rattle.ps_ops_state.specs.Trials.{ordinary}
+use Rattle.ps_ops_state.specs.Attempts.{ordinary}
 use Rattle.ps_ops_state.specs.Unframed.{is_unframed, under}
 use Rattle.ps_ops_state.proofs.Unframed.{acts_under, undone}
 use Rattle.ps_step_execute.specs.declared.under.Under.{Under}

@@ -6,10 +6,10 @@ use Rattle.ps_ops_control.specs.declared.ahead.Ahead.{Ahead}
 use Rattle.ps_ops_control.specs.declared.frames.Frame.{Frame}
 use Rattle.ps_ops_control.specs.Ahead.{HasRoom, OnDone, OnLeft, done_ahead, frames_ahead}
 use Rattle.ps_ops_state.specs.declared.breaks.Break.{Break}
-use Rattle.ps_ops_state.specs.declared.lent.Trial.{Trial}
+use Rattle.ps_ops_state.specs.declared.lent.Attempt.{Attempt}
 use Rattle.ps_ops_state.specs.Acts.{Acts}
 use Rattle.ps_ops_state.specs.Lent.{Lent, IsGood}
-use Rattle.ps_ops_state.specs.Trials.{ordinary}
+use Rattle.ps_ops_state.specs.Attempts.{ordinary}
 use Rattle.ps_ops_state.specs.Unframed.{under, IsUndone}
 use Rattle.ps_step_execute.specs.declared.under.Under.{Under}
 use Rattle.ps_step_execute.specs.declared.under.Under.TheVariants as variants
@@ -20,9 +20,9 @@ use Rattle.ps_ops.specs.Operators.{asked_of, row_now}
 -- of the procedure that it enters, if that has room; or nothing has changed
 abbrev pub ActsAhead : Operator → Ahead → (old new : List Word) → Type 0
 ActsAhead operator came old new = OnLeft came (new ≡ old)
-    × OnDone came ((l : Lent) (trial : Trial) → IsGood (record l { operands = old })
+    × OnDone came ((l : Lent) (attempt : Attempt) → IsGood (record l { operands = old })
     → HasRoom 1 came l.frames
-    → Acts (asked_of operator) (row_now operator) trial (Ok tt) (record l { operands = old })
+    → Acts (asked_of operator) (row_now operator) attempt (Ok tt) (record l { operands = old })
     (record l { operands = new; frames = frames_ahead came l.frames }))
 
 -- by operands alone: it acts, or nothing has changed

@@ -2,7 +2,7 @@
 
 ghost use Rattle.std.specs.Prelude.{◌≡◌, ◌<◌, IsTrue};
 ghost use Rattle.ps_ops_state.specs.Acts.{Acts};
-ghost use Rattle.ps_ops_state.specs.Lent.{lent, IsGood};
+ghost use Rattle.ps_ops_state.specs.Lent.{lent, lent_of, IsGood};
 ghost use Rattle.ps_ops.specs.Operators.{asked_of, row_now, is_done};
 
 use crate::exits::exit;
@@ -27,7 +27,7 @@ use ps_ops_sequences::loops::forall;
 use ps_ops_sequences::reductions::{noaccess, readonly};
 use ps_ops_sequences::searches::search;
 use ps_ops_state::breaks::{Break, made, tried};
-use ps_ops_state::lent::{Context, Shared, Trial};
+use ps_ops_state::lent::{Attempt, Context, Runtime};
 use ps_ops_strings::makes::string;
 use ps_ops_strings::searches::anchorsearch;
 use ps_ops_types::types::type_of;
@@ -48,16 +48,14 @@ use ps_text::lines::Form;
 pub fn operate<M: Memory>(
     operator: Operator,
     context: &mut Context,
-    shared: &mut Shared,
-    memory: &mut M,
-    trial: Trial,
+    runtime: &mut Runtime<M>,
+    attempt: Attempt,
 ) -> Result<(), Break>
     requires done { IsTrue (is_done operator) }
-    requires good { IsGood
-        (lent (M.heap memory.old) (M.grants memory.old) context.old shared.old) }
-    ensures { Acts (asked_of operator) (row_now operator) trial result
-        (lent (M.heap memory.old) (M.grants memory.old) context.old shared.old)
-        (lent (M.heap memory.new) (M.grants memory.new) context.new shared.new) }
+    requires good { IsGood (lent_of M.heap M.grants context.old runtime.old) }
+    ensures { Acts (asked_of operator) (row_now operator) attempt result
+        (lent_of M.heap M.grants context.old runtime.old)
+        (lent_of M.heap M.grants context.new runtime.new) }
 {
     match operator {
         Operator::Pop => made(stack_operators::pop(&mut context.operands)),
@@ -83,8 +81,8 @@ pub fn operate<M: Memory>(
         Operator::Not => made(logic::not(&mut context.operands)),
         Operator::Bitshift => made(arithmetic::bitshift(&mut context.operands)),
         Operator::BeginArray => made(stack_operators::mark(&mut context.operands)),
-        Operator::Get => get(context, shared, memory),
-        Operator::Aload => made(arrays::aload(&mut context.operands, memory)),
+        Operator::Get => get(context, runtime),
+        Operator::Aload => made(arrays::aload(&mut context.operands, &mut runtime.memory)),
         Operator::BeginDict => made(stack_operators::mark(&mut context.operands)),
         Operator::Exec => made(control::exec(&mut context.operands, &mut context.frames)),
         Operator::If => made(control::if_then(&mut context.operands, &mut context.frames)),
@@ -104,67 +102,70 @@ pub fn operate<M: Memory>(
         Operator::Cvlit => made(attributes::cvlit(&mut context.operands)),
         Operator::Cvx => made(attributes::cvx(&mut context.operands)),
         Operator::Xcheck => made(attributes::xcheck(&mut context.operands)),
-        Operator::ExecuteOnly => made(attributes::executeonly(&mut context.operands, memory)),
-        Operator::Rcheck => made(access::rcheck(&mut context.operands, memory)),
-        Operator::Wcheck => made(access::wcheck(&mut context.operands, memory)),
-        Operator::AnchorSearch => made(anchorsearch(&mut context.operands, memory)),
+        Operator::ExecuteOnly => made(attributes::executeonly(
+            &mut context.operands,
+            &mut runtime.memory,
+        )),
+        Operator::Rcheck => made(access::rcheck(&mut context.operands, &mut runtime.memory)),
+        Operator::Wcheck => made(access::wcheck(&mut context.operands, &mut runtime.memory)),
+        Operator::AnchorSearch => made(anchorsearch(&mut context.operands, &mut runtime.memory)),
         Operator::MakeString => tried(string(
             &mut context.operands,
-            memory,
-            trial.slot,
-            trial.refused,
+            &mut runtime.memory,
+            attempt.slot,
+            attempt.refused,
         )),
         Operator::Array => tried(makes::array(
             &mut context.operands,
-            memory,
-            trial.slot,
-            trial.refused,
+            &mut runtime.memory,
+            attempt.slot,
+            attempt.refused,
         )),
         Operator::EndArray => tried(makes::end_array(
             &mut context.operands,
-            memory,
-            trial.slot,
-            trial.refused,
+            &mut runtime.memory,
+            attempt.slot,
+            attempt.refused,
         )),
-        Operator::Put => put(context, shared, memory, trial),
-        Operator::Copy => copy(context, shared, memory, trial),
-        Operator::Equals => output::equals(context, shared, memory),
-        Operator::EqualsEquals => output::equals_equals(context, shared, memory),
-        Operator::Stack => output::show_stack(context, shared, memory, Form::Plain),
-        Operator::Pstack => output::show_stack(context, shared, memory, Form::Full),
-        Operator::Print => print(context, shared, memory),
-        Operator::Begin => dictionaries::begin(context, shared, memory),
-        Operator::End => dictionaries::end(context, shared, memory),
-        Operator::MaxLength => maxlength(context, shared, memory),
-        Operator::CurrentDict => dictionaries::currentdict(context, shared, memory),
-        Operator::CountDictStack => dictionaries::countdictstack(context, shared, memory),
-        Operator::ClearDictStack => dictionaries::cleardictstack(context, shared, memory),
-        Operator::Known => finds::known(context, shared, memory),
-        Operator::Load => finds::load(context, shared, memory),
-        Operator::Where => finds::where_key(context, shared, memory),
-        Operator::GetInterval => getinterval(context, shared, memory),
-        Operator::Length => length(context, shared, memory),
-        Operator::PutInterval => putinterval(context, shared, memory, trial),
-        Operator::Forall => forall(context, shared, memory),
-        Operator::ReadOnly => readonly(context, shared, memory, trial),
-        Operator::NoAccess => noaccess(context, shared, memory, trial),
-        Operator::Astore => astore(context, shared, memory, trial),
-        Operator::Eq => equality(context, shared, memory, true),
-        Operator::Ne => equality(context, shared, memory, false),
-        Operator::Gt => order(context, shared, memory, Relation::Greater),
-        Operator::Ge => order(context, shared, memory, Relation::GreaterOrEqual),
-        Operator::Lt => order(context, shared, memory, Relation::Less),
-        Operator::Le => order(context, shared, memory, Relation::LessOrEqual),
-        Operator::Search => search(context, shared, memory),
-        Operator::Dict => dict(context, shared, memory, trial),
-        Operator::Cvi => cvi(context, shared, memory),
-        Operator::Cvn => cvn(context, shared, memory),
-        Operator::Cvs => cvs(context, shared, memory, trial),
-        Operator::Def => definitions::def(context, shared, memory, trial),
-        Operator::Store => definitions::store(context, shared, memory, trial),
-        Operator::Undef => undef(context, shared, memory, trial),
-        Operator::EndDict => end_dict(context, shared, memory, trial),
-        Operator::ErrorDict => error_dictionary(context, shared, memory),
+        Operator::Put => put(context, runtime, attempt),
+        Operator::Copy => copy(context, runtime, attempt),
+        Operator::Equals => output::equals(context, runtime),
+        Operator::EqualsEquals => output::equals_equals(context, runtime),
+        Operator::Stack => output::show_stack(context, runtime, Form::Plain),
+        Operator::Pstack => output::show_stack(context, runtime, Form::Full),
+        Operator::Print => print(context, runtime),
+        Operator::Begin => dictionaries::begin(context, runtime),
+        Operator::End => dictionaries::end(context, runtime),
+        Operator::MaxLength => maxlength(context, runtime),
+        Operator::CurrentDict => dictionaries::currentdict(context, runtime),
+        Operator::CountDictStack => dictionaries::countdictstack(context, runtime),
+        Operator::ClearDictStack => dictionaries::cleardictstack(context, runtime),
+        Operator::Known => finds::known(context, runtime),
+        Operator::Load => finds::load(context, runtime),
+        Operator::Where => finds::where_key(context, runtime),
+        Operator::GetInterval => getinterval(context, runtime),
+        Operator::Length => length(context, runtime),
+        Operator::PutInterval => putinterval(context, runtime, attempt),
+        Operator::Forall => forall(context, runtime),
+        Operator::ReadOnly => readonly(context, runtime, attempt),
+        Operator::NoAccess => noaccess(context, runtime, attempt),
+        Operator::Astore => astore(context, runtime, attempt),
+        Operator::Eq => equality(context, runtime, true),
+        Operator::Ne => equality(context, runtime, false),
+        Operator::Gt => order(context, runtime, Relation::Greater),
+        Operator::Ge => order(context, runtime, Relation::GreaterOrEqual),
+        Operator::Lt => order(context, runtime, Relation::Less),
+        Operator::Le => order(context, runtime, Relation::LessOrEqual),
+        Operator::Search => search(context, runtime),
+        Operator::Dict => dict(context, runtime, attempt),
+        Operator::Cvi => cvi(context, runtime),
+        Operator::Cvn => cvn(context, runtime),
+        Operator::Cvs => cvs(context, runtime, attempt),
+        Operator::Def => definitions::def(context, runtime, attempt),
+        Operator::Store => definitions::store(context, runtime, attempt),
+        Operator::Undef => undef(context, runtime, attempt),
+        Operator::EndDict => end_dict(context, runtime, attempt),
+        Operator::ErrorDict => error_dictionary(context, runtime),
         Operator::CurrentContext
         | Operator::Fork
         | Operator::Join

@@ -12,7 +12,7 @@ use ps_mem::{Memory, Slot};
 use ps_ops_control::ahead::Ahead;
 use ps_ops_operands::Operands;
 use ps_ops_operands::failure::NotMade;
-use ps_ops_state::lent::{Context, Shared, Trial};
+use ps_ops_state::lent::{Attempt, Context, Runtime};
 use ps_step_execute::operates::Operate;
 use ps_step_execute::under::Under;
 use ps_step_outcome::turned::Turned;
@@ -59,11 +59,10 @@ impl Operate for Operators {
         &self,
         operator: Operator,
         context: &mut Context,
-        shared: &mut Shared,
-        memory: &mut M,
+        runtime: &mut Runtime<M>,
         slot: Slot,
     ) -> Under {
-        under::operate_under(operator, context, shared, memory, slot)
+        under::operate_under(operator, context, runtime, slot)
     }
 
     /// One that is left to the world is handed up; every other one acts.
@@ -72,14 +71,13 @@ impl Operate for Operators {
         &self,
         operator: Operator,
         context: &mut Context,
-        shared: &mut Shared,
-        memory: &mut M,
-        trial: Trial,
+        runtime: &mut Runtime<M>,
+        attempt: Attempt,
     ) -> Result<Turned, NotMade> {
         if is_for_world(operator) {
             return Ok(Turned::Calls(operator));
         }
-        operated(operator, context, shared, memory, trial)
+        operated(operator, context, runtime, attempt)
     }
 
     ghost few = { operator_few };

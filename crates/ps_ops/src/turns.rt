@@ -1,7 +1,7 @@
 //! A step by an operator (PLRM2, 3.5, 3.10).
 
 ghost use Rattle.std.specs.Prelude.{◌≡◌, ◌<◌, IsTrue};
-ghost use Rattle.ps_ops_state.specs.Lent.{lent, IsGood};
+ghost use Rattle.ps_ops_state.specs.Lent.{lent_of, IsGood};
 ghost use Rattle.ps_ops.specs.Operators.{is_done};
 ghost use Rattle.ps_ops.specs.Turns.{operator_asks};
 ghost use Rattle.ps_step_outcome.specs.Turns.{Turns};
@@ -12,7 +12,7 @@ use ps_language::operators::Operator;
 use ps_mem::Memory;
 use ps_ops_operands::failure::NotMade;
 use ps_ops_state::breaks::Break;
-use ps_ops_state::lent::{Context, Shared, Trial};
+use ps_ops_state::lent::{Attempt, Context, Runtime};
 use ps_step_outcome::breaks::break_off;
 use ps_step_outcome::raises::raise_by;
 use ps_step_outcome::turned::Turned;
@@ -26,28 +26,26 @@ use ps_step_outcome::turned::Turned;
 pub fn operated<M: Memory>(
     operator: Operator,
     context: &mut Context,
-    shared: &mut Shared,
-    memory: &mut M,
-    trial: Trial,
+    runtime: &mut Runtime<M>,
+    attempt: Attempt,
 ) -> Result<Turned, NotMade>
     requires done { IsTrue (is_done operator) }
-    requires good { IsGood
-        (lent (M.heap memory.old) (M.grants memory.old) context.old shared.old) }
-    ensures { Turns (operated_asks operator_asks operator) (operated_turn operator) trial result
-        (lent (M.heap memory.old) (M.grants memory.old) context.old shared.old)
-        (lent (M.heap memory.new) (M.grants memory.new) context.new shared.new) }
+    requires good { IsGood (lent_of M.heap M.grants context.old runtime.old) }
+    ensures { Turns (operated_asks operator_asks operator) (operated_turn operator) attempt result
+        (lent_of M.heap M.grants context.old runtime.old)
+        (lent_of M.heap M.grants context.new runtime.new) }
 {
-    let again = trial;
-    let count = shared.names.len();
-    match operate(operator, context, shared, memory, trial) {
+    let same_attempt = attempt;
+    let count = runtime.shared.names.len();
+    match operate(operator, context, runtime, attempt) {
         Ok(()) => Ok(Turned::Goes),
-        Err(Break::Unwinds(cause)) => break_off(cause, context, shared, memory, again),
+        Err(Break::Unwinds(cause)) => break_off(cause, context, runtime, same_attempt),
         Err(Break::NotMade(reason)) => Err(reason),
         Err(Break::Raises(error)) => {
-            match raise_by(operator, error, context, shared, memory, again) {
+            match raise_by(operator, error, context, runtime, same_attempt) {
                 Ok(turned) => Ok(turned),
                 Err(reason) => {
-                    shared.names.truncate(count);
+                    runtime.shared.names.truncate(count);
                     Err(reason)
                 }
             }

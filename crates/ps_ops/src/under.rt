@@ -2,7 +2,7 @@
 //! 8 'Operators').
 
 ghost use Rattle.std.specs.Prelude.{◌≡◌, ◌<◌};
-ghost use Rattle.ps_ops_state.specs.Lent.{lent, IsGood};
+ghost use Rattle.ps_ops_state.specs.Lent.{lent_of, IsGood};
 ghost use Rattle.ps_ops.specs.Alone.{ActsUnder, came_under};
 
 use crate::joins::{get, put};
@@ -14,7 +14,7 @@ use ps_ops_dictionaries::finds::{known, load};
 use ps_ops_dictionaries::stack::{begin, end};
 use ps_ops_sequences::lengths::length;
 use ps_ops_state::breaks::{Break, made, tried};
-use ps_ops_state::lent::{Context, Shared, Trial};
+use ps_ops_state::lent::{Attempt, Context, Runtime};
 use ps_ops_strings::makes::string;
 use ps_step_execute::under::Under;
 
@@ -35,43 +35,41 @@ fn came(outcome: Result<(), Break>) -> Under
 pub fn operate_under<M: Memory>(
     operator: Operator,
     context: &mut Context,
-    shared: &mut Shared,
-    memory: &mut M,
+    runtime: &mut Runtime<M>,
     slot: Slot,
 ) -> Under
-    requires good { IsGood
-        (lent (M.heap memory.old) (M.grants memory.old) context.old shared.old) }
+    requires good { IsGood (lent_of M.heap M.grants context.old runtime.old) }
     ensures frames { context.new.frames ≡ context.old.frames }
     ensures acts { ActsUnder operator slot result
-        (lent (M.heap memory.old) (M.grants memory.old) context.old shared.old)
-        (lent (M.heap memory.new) (M.grants memory.new) context.new shared.new) }
+        (lent_of M.heap M.grants context.old runtime.old)
+        (lent_of M.heap M.grants context.new runtime.new) }
 {
-    let trial = Trial {
+    let attempt = Attempt {
         slot,
         refused: false,
     };
     match operator {
-        Operator::Get => came(get(context, shared, memory)),
-        Operator::Put => came(put(context, shared, memory, trial)),
-        Operator::Length => came(length(context, shared, memory)),
-        Operator::Aload => came(made(arrays::aload(&mut context.operands, memory))),
+        Operator::Get => came(get(context, runtime)),
+        Operator::Put => came(put(context, runtime, attempt)),
+        Operator::Length => came(length(context, runtime)),
+        Operator::Aload => came(made(arrays::aload(&mut context.operands, &mut runtime.memory))),
         Operator::Array => {
-            let outcome = makes::array(&mut context.operands, memory, slot, false);
+            let outcome = makes::array(&mut context.operands, &mut runtime.memory, slot, false);
             came(tried(outcome))
         }
         Operator::EndArray => {
-            let outcome = makes::end_array(&mut context.operands, memory, slot, false);
+            let outcome = makes::end_array(&mut context.operands, &mut runtime.memory, slot, false);
             came(tried(outcome))
         }
         Operator::MakeString => {
-            let outcome = string(&mut context.operands, memory, slot, false);
+            let outcome = string(&mut context.operands, &mut runtime.memory, slot, false);
             came(tried(outcome))
         }
-        Operator::Def => came(def(context, shared, memory, trial)),
-        Operator::Load => came(load(context, shared, memory)),
-        Operator::Known => came(known(context, shared, memory)),
-        Operator::Begin => came(begin(context, shared, memory)),
-        Operator::End => came(end(context, shared, memory)),
+        Operator::Def => came(def(context, runtime, attempt)),
+        Operator::Load => came(load(context, runtime)),
+        Operator::Known => came(known(context, runtime)),
+        Operator::Begin => came(begin(context, runtime)),
+        Operator::End => came(end(context, runtime)),
         _ => Under::Left,
     }
 }

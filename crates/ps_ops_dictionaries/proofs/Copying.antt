@@ -40,7 +40,7 @@ use Rattle.ps_ops_operands.proofs.Held.{rest_held, first_of_two_held, second_hel
 use Rattle.ps_ops_operands.proofs.Operands.{first_two_split}
 use Rattle.ps_ops_types.proofs.Accesses.{dictionary_stands}
 use Rattle.ps_ops_state.specs.declared.breaks.Break.TheVariants.{Raises, NotMade}
-use Rattle.ps_ops_state.specs.declared.lent.Trial.{Trial}
+use Rattle.ps_ops_state.specs.declared.lent.Attempt.{Attempt}
 use Rattle.ps_ops_state.specs.declared.lent.Scratch.{Scratch}
 use Rattle.ps_ops_state.specs.Lent.{Lent, rooms_of, IsEmpty, scene_of, IsShown, IsGood}
 use Rattle.ps_ops_state.specs.Acts.{Asked, IsAtLeast, needs_between, IsReason, Lasts, effect_in, Acts, over}
@@ -153,7 +153,7 @@ module _ (l : Lent) (good : IsGood l) (y x : Word) (two : Some (y, x) ≡ first_
 
       -- ---- they are not too many
 
-      module _ (possible : merge_plan_at l.heap to from ≢ Full) (trial : Trial) where
+      module _ (possible : merge_plan_at l.heap to from ≢ Full) (attempt : Attempt) where
         abbrev plan : MergePlan
         plan = merge_plan_at l.heap to from
 
@@ -201,16 +201,16 @@ module _ (l : Lent) (good : IsGood l) (y x : Word) (two : Some (y, x) ≡ first_
               ∙ (merge_growth (target_in store) held_then.0 (source_in store).pairs few held_then.1
               ∙ ap words_of (sym (plan_is store shown)))
 
-          enough : (IsTrue trial.refused → words_of plan ≡ 0)
-              → lacks_room trial.refused store left_store ≡ false
-          enough room = enough_room trial.refused (made_between store left_store)
+          enough : (IsTrue attempt.refused → words_of plan ≡ 0)
+              → lacks_room attempt.refused store left_store ≡ false
+          enough room = enough_room attempt.refused (made_between store left_store)
               (λ refused. words_are ∙ room refused)
 
-          lacking : trial.refused ≡ true → 0 < words_of plan
-              → lacks_room trial.refused store left_store ≡ true
+          lacking : attempt.refused ≡ true → 0 < words_of plan
+              → lacks_room attempt.refused store left_store ≡ true
           lacking refused some =
               let same = words_are in
-              lacks_some trial.refused (made_between store left_store) refused
+              lacks_some attempt.refused (made_between store left_store) refused
               (omega (arith, same, some))
 
           lasts : Lasts store left_store
@@ -241,20 +241,20 @@ module _ (l : Lent) (good : IsGood l) (y x : Word) (two : Some (y, x) ≡ first_
               omega (arith, same)
 
           lack_is : (new : Grants) (scratch : Scratch) (reason : Reason)
-              → IsLack (records_of plan) (words_of plan) trial.slot l.heap l.grants new reason
+              → IsLack (records_of plan) (words_of plan) attempt.slot l.heap l.grants new reason
               → IsReason (needs_between (copy_asks (scene_of l store)) (scene_of l store)
-              left_scene []) trial.slot l (record l { grants = new; scratch = scratch }) reason
+              left_scene []) attempt.slot l (record l { grants = new; scratch = scratch }) reason
           lack_is new scratch reason =
-              lack_reason _ trial.slot l (record l { grants = new; scratch = scratch })
+              lack_reason _ attempt.slot l (record l { grants = new; scratch = scratch })
               (records_of plan) (words_of plan) records_are words_are births_same reason
 
         -- ---- a refused step that would make a new body
 
-        pub copy_refused : trial.refused ≡ true → 0 < words_of plan
-            → Acts copy_asks (changing_row copy_row) trial (Err (Raises VmError)) l l
+        pub copy_refused : attempt.refused ≡ true → 0 < words_of plan
+            → Acts copy_asks (changing_row copy_row) attempt (Err (Raises VmError)) l l
         copy_refused refused some =
-            refused_acts l [] l.names (sym (append-nil _)) (changing_row copy_row) trial l.grants
-            copy_asks good (logs-same 0 l.grants trial.slot) (inl refl) λ store shown. record {
+            refused_acts l [] l.names (sym (append-nil _)) (changing_row copy_row) attempt l.grants
+            copy_asks good (logs-same 0 l.grants attempt.slot) (inl refl) λ store shown. record {
               scene = left_scene store shown;
               output = [];
               is = effect_is store shown;
@@ -264,18 +264,18 @@ module _ (l : Lent) (good : IsGood l) (y x : Word) (two : Some (y, x) ≡ first_
 
         -- ---- what it may lack, once the pairs were put together
 
-        module _ (room : IsTrue trial.refused → words_of plan ≡ 0) (scratch : Scratch)
+        module _ (room : IsTrue attempt.refused → words_of plan ≡ 0) (scratch : Scratch)
             (least : IsAtLeast (rooms_of l.scratch) (rooms_of scratch)) (empty : IsEmpty scratch)
           where
-            wants : (grants : Grants) → KeepsLogsWithin 0 l.grants grants trial.slot
+            wants : (grants : Grants) → KeepsLogsWithin 0 l.grants grants attempt.slot
                 → (reason : Reason) → ((store : Store) (shown : IsShown l store)
                 → IsReason (needs_between (copy_asks (scene_of l store)) (scene_of l store)
-                (left_scene store shown) []) trial.slot l
+                (left_scene store shown) []) attempt.slot l
                 (record l { grants = grants; scratch = scratch }) reason)
-                → Acts copy_asks (changing_row copy_row) trial (Err (NotMade reason)) l
+                → Acts copy_asks (changing_row copy_row) attempt (Err (NotMade reason)) l
                 (record l { grants = grants; scratch = scratch })
             wants grants logs reason why =
-                wanting_acts (changing_row copy_row) trial copy_asks l good grants l.room scratch
+                wanting_acts (changing_row copy_row) attempt copy_asks l good grants l.room scratch
                 (omega arith) least empty logs reason λ store shown. record {
                   scene = left_scene store shown;
                   output = [];
@@ -285,28 +285,28 @@ module _ (l : Lent) (good : IsGood l) (y x : Word) (two : Some (y, x) ≡ first_
                 }
 
             pub copy_roomless : vec_capacity l.scratch.words < merge_room l.heap to from
-                → Acts copy_asks (changing_row copy_row) trial (Err (NotMade Memory)) l
+                → Acts copy_asks (changing_row copy_row) attempt (Err (NotMade Memory)) l
                 (record l { scratch = scratch })
             copy_roomless short =
-                wants l.grants (logs-same 0 l.grants trial.slot) Memory λ store shown.
+                wants l.grants (logs-same 0 l.grants attempt.slot) Memory λ store shown.
                 let is = room_is store shown in
                 inr (inr (inr (inr (inr (omega (arith, is, short))))))
 
-            pub copy_lacking : (grants : Grants) → KeepsLogsWithin 0 l.grants grants trial.slot
+            pub copy_lacking : (grants : Grants) → KeepsLogsWithin 0 l.grants grants attempt.slot
                 → (reason : Reason)
-                → IsLack (records_of plan) (words_of plan) trial.slot l.heap l.grants grants reason
-                → Acts copy_asks (changing_row copy_row) trial (Err (NotMade reason)) l
+                → IsLack (records_of plan) (words_of plan) attempt.slot l.heap l.grants grants reason
+                → Acts copy_asks (changing_row copy_row) attempt (Err (NotMade reason)) l
                 (record l { grants = grants; scratch = scratch })
             copy_lacking grants logs reason lack =
                 wants grants logs reason λ store shown. lack_is store shown grants scratch reason lack
 
             pub copy_acts : (new : Heap) (mid left : Grants) → IsSound new
-                → (keeps : Keeps l.heap new) → KeepsLogsWithin 0 l.grants mid trial.slot
-                → AfterChange mid left trial.slot (records_of plan) (words_of plan)
+                → (keeps : Keeps l.heap new) → KeepsLogsWithin 0 l.grants mid attempt.slot
+                → AfterChange mid left attempt.slot (records_of plan) (words_of plan)
                 → ((store : Store) → IsShown l store → (d : Dictionary)
                 → holding (target_in store) (pairs_then store) ≡ Some d
                 → Shows new l.names (with_dictionary store (births to) d))
-                → Acts copy_asks (changing_row copy_row) trial (Ok tt) l
+                → Acts copy_asks (changing_row copy_row) attempt (Ok tt) l
                 (record l {
                   heap = new;
                   grants = left;
@@ -314,7 +314,7 @@ module _ (l : Lent) (good : IsGood l) (y x : Word) (two : Some (y, x) ≡ first_
                   scratch = scratch;
                 })
             copy_acts new mid left sound keeps asked change shows =
-                let logs = logs_changed l.grants mid left trial.slot _ _ asked change in
+                let logs = logs_changed l.grants mid left attempt.slot _ _ asked change in
                 let words = y ∷ drop 2 l.operands in
                 let held : AreValues l.heap words = (
                   first_of_two_held (IsValue l.heap) l.operands good.operands y x two,
@@ -324,7 +324,7 @@ module _ (l : Lent) (good : IsGood l) (y x : Word) (two : Some (y, x) ≡ first_
                 let well = changed_good l good new left words keeps
                 (record { sound = sound; values = AreValues-kept l.heap new keeps words held }) in
                 let after = record (over l new left words) { scratch = scratch } in
-                left_acts (changing_row copy_row) trial copy_asks l good after
+                left_acts (changing_row copy_row) attempt copy_asks l good after
                 (record {
                   sound = well.sound;
                   operands = well.operands;
@@ -336,7 +336,7 @@ module _ (l : Lent) (good : IsGood l) (y x : Word) (two : Some (y, x) ≡ first_
                   empty = empty;
                 })
                 keeps (stays_as l after refl refl refl refl (omega arith) least)
-                (logs_more _ most_records l.grants left trial.slot (few_records plan) logs)
+                (logs_more _ most_records l.grants left attempt.slot (few_records plan) logs)
                 λ store shown.
                 let is_left = changed_left l good new left words keeps store
                 (left_store store shown) (lasts store shown) shown
@@ -361,6 +361,6 @@ module _ (l : Lent) (good : IsGood l) (y x : Word) (two : Some (y, x) ≡ first_
                   };
                   lasts = lasts store shown;
                   printed = sym (append-nil l.printed);
-                  logs = subst (λ (n : ℕ). KeepsLogsWithin n l.grants left trial.slot)
+                  logs = subst (λ (n : ℕ). KeepsLogsWithin n l.grants left attempt.slot)
                       (sym (records_are store shown)) logs;
                 }

@@ -28,7 +28,7 @@ use Rattle.ps_ops_operands.specs.Changes.{KeepsLogsWithin, values_in}
 use Rattle.ps_ops_operands.proofs.Tops.{top_elements, top_within}
 use Rattle.ps_ops_state.specs.declared.breaks.Break.{Break}
 use Rattle.ps_ops_state.specs.declared.breaks.Break.TheVariants.{Unwinds, Raises, NotMade}
-use Rattle.ps_ops_state.specs.declared.lent.Trial.{Trial}
+use Rattle.ps_ops_state.specs.declared.lent.Attempt.{Attempt}
 use Rattle.ps_ops_state.specs.Lent.{Lent, scene_of, IsShown, IsGood}
 use Rattle.ps_ops_state.specs.Acts.{effect_in, Acts}
 use Rattle.ps_ops_state.proofs.Acting.{naming_acts, raised_acts}
@@ -125,15 +125,15 @@ module _ (l : Lent) (depth : ℕ) (mark : IsMarkAt l.operands depth) (elements :
         end_is store _ (passes store shown.shows (within_elements store shown)).1
 
     -- a name can't be met
-    module _ (good : IsGood l) (trial : Trial)
+    module _ (good : IsGood l) (attempt : Attempt)
         (fits : (s : Store) → Shows l.heap l.names s → AreWithin l.heap l.names s elements
         → nat_le (length (met_among l.names s values)) names_limit ≡ true) where
       unmet_name : (break : Break) → IsNamesFault l.heap l.names elements break
-          → Acts end_dict_asks (naming_row end_dict_row) trial (Err break) l l
+          → Acts end_dict_asks (naming_row end_dict_row) attempt (Err break) l l
       unmet_name (Raises error) fault =
           subst (λ (e : ErrorName).
-          Acts end_dict_asks (naming_row end_dict_row) trial (Err (Raises e)) l l) (sym fault.0)
-          (raised_acts (naming_row end_dict_row) trial end_dict_asks l good LimitCheck
+          Acts end_dict_asks (naming_row end_dict_row) attempt (Err (Raises e)) l l) (sym fault.0)
+          (raised_acts (naming_row end_dict_row) attempt end_dict_asks l good LimitCheck
           λ store shown.
           let room = fits store shown.shows (within_elements store shown) in
           let past = fault.1 store shown.shows (within_elements store shown) in
@@ -142,9 +142,9 @@ module _ (l : Lent) (depth : ℕ) (mark : IsMarkAt l.operands depth) (elements :
           absurd (omega (arith, past, most)))
       unmet_name (NotMade reason) fault =
           subst (λ (r : Reason).
-          Acts end_dict_asks (naming_row end_dict_row) trial (Err (NotMade r)) l l) (sym fault.0)
-          (naming_acts (naming_row end_dict_row) trial end_dict_asks l good l.grants l.room
-          l.scratch (omega arith) (at_least-same _) good.empty (logs-same 0 l.grants trial.slot)
+          Acts end_dict_asks (naming_row end_dict_row) attempt (Err (NotMade r)) l l) (sym fault.0)
+          (naming_acts (naming_row end_dict_row) attempt end_dict_asks l good l.grants l.room
+          l.scratch (omega arith) (at_least-same _) good.empty (logs-same 0 l.grants attempt.slot)
           λ store shown. record {
             scene = end_scene store shown;
             output = [];
@@ -157,23 +157,23 @@ module _ (l : Lent) (depth : ℕ) (mark : IsMarkAt l.operands depth) (elements :
       pub end_unmet : (break : Break) → IsNamesFault l.heap l.names elements break
           → (more after cut : List (List ℕ)) → after ≡ l.names ++ more → (count : ℕ)
           → count ≡ length l.names → cut ≡ take count after
-          → Acts end_dict_asks (naming_row end_dict_row) trial (Err break) l
+          → Acts end_dict_asks (naming_row end_dict_row) attempt (Err break) l
           (record l { names = cut })
       end_unmet break fault more after cut are_after count count_is is =
           let same : cut ≡ l.names =
           is ∙ (ap (take count) (are_after ∙ sym (append-nil (l.names ++ more)))
           ∙ cut_names l.names more [] count count_is) in
-          subst (λ (ns : List (List ℕ)). Acts end_dict_asks (naming_row end_dict_row) trial
+          subst (λ (ns : List (List ℕ)). Acts end_dict_asks (naming_row end_dict_row) attempt
           (Err break) l (record l { names = ns })) (sym same) (unmet_name break fault)
 
     -- ---- a refused step, whose names are met
-    module _ (good : IsGood l) (trial : Trial) (refused : trial.refused ≡ true)
+    module _ (good : IsGood l) (attempt : Attempt) (refused : attempt.refused ≡ true)
         (more names : List (List ℕ)) (are_more : names ≡ l.names ++ more)
         (met : (s : Store) → Shows l.heap l.names s → AreWithin l.heap l.names s elements
         → met_among l.names s values ≡ names)
         (distinct : AllPairs (λ one later. one ≢ later) names) where
       lacks : (grants : Grants) (store : Store) → IsShown l store
-          → Lacks l more names are_more (naming_row end_dict_row) trial grants store
+          → Lacks l more names are_more (naming_row end_dict_row) attempt grants store
       lacks grants store shown = record {
         scene = end_scene store shown;
         output = [];
@@ -183,7 +183,7 @@ module _ (l : Lent) (depth : ℕ) (mark : IsMarkAt l.operands depth) (elements :
             let size = made-new store (dictionary_object
             (record (empty_dictionary (length (pairs_in store shown)))
             { pairs = put_pairs [] (pairs_in store shown) })) in
-            lacks_some trial.refused _ refused (omega (arith, size));
+            lacks_some attempt.refused _ refused (omega (arith, size));
       }
 
       well : IsGood (record l { names = names })
@@ -191,38 +191,38 @@ module _ (l : Lent) (depth : ℕ) (mark : IsMarkAt l.operands depth) (elements :
 
       -- none is new
       pub end_refused : length names ≡ length l.names
-          → Acts end_dict_asks (naming_row end_dict_row) trial (Err (Raises VmError)) l
+          → Acts end_dict_asks (naming_row end_dict_row) attempt (Err (Raises VmError)) l
           (record l { names = names })
       end_refused same =
           let size = ap length are_more ∙ length-append l.names more in
-          refused_acts l more names are_more (naming_row end_dict_row) trial l.grants end_dict_asks
-          well (logs-same 0 l.grants trial.slot)
+          refused_acts l more names are_more (naming_row end_dict_row) attempt l.grants end_dict_asks
+          well (logs-same 0 l.grants attempt.slot)
           (inl (are_more ∙ (ap (λ (ns : List (List ℕ)). l.names ++ ns)
           (none_of more (omega (arith, size, same))) ∙ append-nil l.names)))
           (lacks l.grants)
 
       -- some are
       pub end_noted : 1 ≤ length names - length l.names → (grants : Grants)
-          → KeepsLogsWithin 0 l.grants grants trial.slot → (after : List (List ℕ)) (count : ℕ)
+          → KeepsLogsWithin 0 l.grants grants attempt.slot → (after : List (List ℕ)) (count : ℕ)
           → count ≡ length l.names → (break : Break)
-          → IsRefusal trial.slot l.heap names after count l.grants grants break
-          → Acts end_dict_asks (naming_row end_dict_row) trial (Err break) l
+          → IsRefusal attempt.slot l.heap names after count l.grants grants break
+          → Acts end_dict_asks (naming_row end_dict_row) attempt (Err break) l
           (record l { grants = grants; names = after })
       end_noted some grants logs after count count_is (Raises error) it =
-          subst (λ (e : ErrorName). Acts end_dict_asks (naming_row end_dict_row) trial
+          subst (λ (e : ErrorName). Acts end_dict_asks (naming_row end_dict_row) attempt
           (Err (Raises e)) l (record l { grants = grants; names = after })) (sym it.0)
-          (subst (λ (ns : List (List ℕ)). Acts end_dict_asks (naming_row end_dict_row) trial
+          (subst (λ (ns : List (List ℕ)). Acts end_dict_asks (naming_row end_dict_row) attempt
           (Err (Raises VmError)) l (record l { grants = grants; names = ns })) (sym it.1)
-          (refused_acts l more names are_more (naming_row end_dict_row) trial grants end_dict_asks
+          (refused_acts l more names are_more (naming_row end_dict_row) attempt grants end_dict_asks
           well logs (inr (it.2, it.3)) (lacks grants)))
       end_noted some grants logs after count count_is (NotMade reason) it =
           let same : after ≡ l.names =
           it.0 ∙ (ap (take count) (are_more ∙ sym (append-nil (l.names ++ more)))
           ∙ cut_names l.names more [] count count_is) in
-          subst (λ (ns : List (List ℕ)). Acts end_dict_asks (naming_row end_dict_row) trial
+          subst (λ (ns : List (List ℕ)). Acts end_dict_asks (naming_row end_dict_row) attempt
           (Err (NotMade reason)) l (record l { grants = grants; names = ns })) (sym same)
-          (unnoted_acts l more names are_more (naming_row end_dict_row) trial grants end_dict_asks
+          (unnoted_acts l more names are_more (naming_row end_dict_row) attempt grants end_dict_asks
           good logs reason (lacks grants) λ store.
-          note_lack l trial grants (end_dict_asks (scene_of l store)).scratch
+          note_lack l attempt grants (end_dict_asks (scene_of l store)).scratch
           (length names - length l.names) some reason it.1)
       end_noted some grants logs after count count_is (Unwinds cause) it = absurd it

@@ -18,7 +18,7 @@ use Rattle.ps_mem.proofs.NameLemmas.{value_of-named}
 use Rattle.ps_dict.specs.Puts.{planned, records_of}
 use Rattle.ps_ops_operands.specs.Changes.{values_in}
 use Rattle.ps_ops_state.specs.declared.breaks.Break.{Break}
-use Rattle.ps_ops_state.specs.declared.lent.Trial.{Trial}
+use Rattle.ps_ops_state.specs.declared.lent.Attempt.{Attempt}
 use Rattle.ps_ops_state.specs.Lent.{Lent, scene_of, IsShown}
 use Rattle.ps_ops_state.specs.Acts.{Asked, no_rooms, effect_in, Acts}
 use Rattle.ps_ops_state.proofs.Alike.{effect_acts, asked_acts}
@@ -88,19 +88,19 @@ module _ (l : Lent) (k w : Word) (are : IsKeyOf l.heap l.names k (Met w)) where
   pub met_acts : (a : ℕ) (x : Word) (count : ℕ)
       → ((store : Store) → IsShown l store
       → IsWithin (birth_at l.heap) l.names store k × IsWithin (birth_at l.heap) l.names store x)
-      → (trial : Trial) (result : Result Unit Break) (new : Lent)
-      → Acts (putting_asks (birth_at l.heap) a w) (putting (birth_at l.heap) a w x count) trial
+      → (attempt : Attempt) (result : Result Unit Break) (new : Lent)
+      → Acts (putting_asks (birth_at l.heap) a w) (putting (birth_at l.heap) a w x count) attempt
       result l new
       → Acts (putting_key_asks (birth_at l.heap) a k) (putting_key (birth_at l.heap) a k x count)
-      trial result l new
-  met_acts a x count inside trial result new did =
+      attempt result l new
+  met_acts a x count inside attempt result new did =
       let none = sym (append-nil l.names) in
       let keyed = λ (store : Store) (shown : IsShown l store).
       met_keyed store shown (inside store shown).0 in
       let value = λ (store : Store) (shown : IsShown l store). (inside store shown).1 in
-      effect_acts trial result l new _ _ _
+      effect_acts attempt result l new _ _ _
       (keyed_effects l a k x w count [] l.names none keyed value)
-      (asked_acts trial result l new _ _ _
+      (asked_acts attempt result l new _ _ _
       (λ store shown. sym (keyed_asks l a k x w count [] l.names none keyed value store shown)) did)
 
 -- ---- where the dictionary may be written
@@ -114,9 +114,9 @@ module _ (l : Lent) (a : ℕ) (k x : Word) (count : ℕ) (access : Access)
   unwritable_raises hidden store shown =
       rw (sym (value l.names store shown.shows), hidden) refl
 
-  pub writable_acts : is_writable access ≡ true → (asks : Scene → Asked) (trial : Trial)
+  pub writable_acts : is_writable access ≡ true → (asks : Scene → Asked) (attempt : Attempt)
       (result : Result Unit Break) (new : Lent)
-      → Acts asks (putting_key (birth_at l.heap) a k x count) trial result l new
-      → Acts asks (putting_where_writable (birth_at l.heap) a k x count) trial result l new
-  writable_acts may asks trial result new = effect_acts trial result l new asks _ _
+      → Acts asks (putting_key (birth_at l.heap) a k x count) attempt result l new
+      → Acts asks (putting_where_writable (birth_at l.heap) a k x count) attempt result l new
+  writable_acts may asks attempt result new = effect_acts attempt result l new asks _ _
       λ store shown. rw (sym (value l.names store shown.shows), may) refl

@@ -31,7 +31,7 @@ use Rattle.ps_ops_operands.proofs.Held.{rest_held}
 use Rattle.ps_ops_operands.proofs.Tops.{top_elements, top_within}
 use Rattle.ps_ops_state.specs.declared.breaks.Break.TheVariants.{NotMade}
 use Rattle.ps_ops_state.specs.declared.lent.Scratch.{Scratch}
-use Rattle.ps_ops_state.specs.declared.lent.Trial.{Trial}
+use Rattle.ps_ops_state.specs.declared.lent.Attempt.{Attempt}
 use Rattle.ps_ops_state.specs.Lent.{Lent, IsEmpty, rooms_of, scene_of, IsShown, IsGood}
 use Rattle.ps_ops_state.specs.Acts.{IsAtLeast, IsReason, Needs, needs_between, IsLeft, over, Acts}
 use Rattle.ps_ops_state.proofs.Reasons.{room_reason}
@@ -180,7 +180,7 @@ module _ (l : Lent) (depth : ℕ) (mark : IsMarkAt l.operands depth) (elements :
     → (pairs : List (Value × Value))
     × (tested l.names s (values_in l.heap l.names elements)
     ≡ leaves (pairs, met_among l.names s (values_in l.heap l.names elements))))
-    (good : IsGood l) (trial : Trial) (room : trial.refused ≡ false) where
+    (good : IsGood l) (attempt : Attempt) (room : attempt.refused ≡ false) where
   abbrev above : List Value
   above = values_in l.heap l.names elements
 
@@ -209,7 +209,7 @@ module _ (l : Lent) (depth : ℕ) (mark : IsMarkAt l.operands depth) (elements :
       ∙ (sym even ∙ ap (λ (n : ℕ). 2 * (n / 2)) count_elements)
 
   enough : (store : Store) (shown : IsShown l store)
-      → lacks_room trial.refused store (left store shown).store ≡ false
+      → lacks_room attempt.refused store (left store shown).store ≡ false
   enough store shown = ap (λ (r : Bool). lacks_room r store (left store shown).store) room
 
   made_words : (store : Store) (shown : IsShown l store)
@@ -242,19 +242,19 @@ module _ (l : Lent) (depth : ℕ) (mark : IsMarkAt l.operands depth) (elements :
   -- for want of room
   module _ (grants : Grants) (scratch : Scratch)
       (least : IsAtLeast (rooms_of l.scratch) (rooms_of scratch)) (empty : IsEmpty scratch)
-      (logs : KeepsLogsWithin 0 l.grants grants trial.slot) where
+      (logs : KeepsLogsWithin 0 l.grants grants attempt.slot) where
     roomless : (reason : Reason) → LacksPairs reason l.heap (rooms_of l.scratch).words depth
-        → Acts end_dict_asks (naming_row end_dict_row) trial (Err (NotMade reason)) l
+        → Acts end_dict_asks (naming_row end_dict_row) attempt (Err (NotMade reason)) l
         (record l { grants = grants; scratch = scratch })
     roomless reason why =
-        wanting_acts (naming_row end_dict_row) trial end_dict_asks l good grants l.room scratch
+        wanting_acts (naming_row end_dict_row) attempt end_dict_asks l good grants l.room scratch
         (omega arith) least empty logs reason λ store shown. record {
           scene = left store shown;
           output = [];
           is = end_makes l depth mark elements are passes store shown;
           enough = enough store shown;
           why = lack_why (needs_between (end_dict_asks (scene_of l store)) (scene_of l store)
-              (left store shown) []) trial.slot l
+              (left store shown) []) attempt.slot l
               (record l { grants = grants; scratch = scratch }) depth (asked_words store)
               (made_words store shown) (made_births store shown) reason why;
         }
@@ -263,13 +263,13 @@ module _ (l : Lent) (depth : ℕ) (mark : IsMarkAt l.operands depth) (elements :
         → LacksPairs reason l.heap (rooms_of l.scratch).words depth
         → (more after cut : List (List ℕ)) → after ≡ l.names ++ more → (count : ℕ)
         → count ≡ length l.names → cut ≡ take count after
-        → Acts end_dict_asks (naming_row end_dict_row) trial (Err (NotMade reason)) l
+        → Acts end_dict_asks (naming_row end_dict_row) attempt (Err (NotMade reason)) l
         (record l { grants = grants; names = cut; scratch = scratch })
     end_roomless reason why more after cut are_after count count_is is =
         let same : cut ≡ l.names =
         is ∙ (ap (take count) (are_after ∙ sym (append-nil (l.names ++ more)))
         ∙ cut_names l.names more [] count count_is) in
-        subst (λ (ns : List (List ℕ)). Acts end_dict_asks (naming_row end_dict_row) trial
+        subst (λ (ns : List (List ℕ)). Acts end_dict_asks (naming_row end_dict_row) attempt
         (Err (NotMade reason)) l (record l { grants = grants; names = ns; scratch = scratch }))
         (sym same) (roomless reason why)
 
@@ -359,7 +359,7 @@ module _ (l : Lent) (depth : ℕ) (mark : IsMarkAt l.operands depth) (elements :
             })
             ∙ sym done.is))
 
-        is_made : Made (naming_row end_dict_row) trial end_dict_asks l new store
+        is_made : Made (naming_row end_dict_row) attempt end_dict_asks l new store
         is_made = record {
           after = (left store is_shown).store;
           output = [];
@@ -374,12 +374,12 @@ module _ (l : Lent) (depth : ℕ) (mark : IsMarkAt l.operands depth) (elements :
           };
           lasts = longer store (pairs_object (paired store is_shown) ∷ []);
           printed = sym (append-nil l.printed);
-          logs = logs_more 0 _ l.grants grants trial.slot (omega arith) logs;
+          logs = logs_more 0 _ l.grants grants attempt.slot (omega arith) logs;
         }
 
-      pub end_made : Acts end_dict_asks (naming_row end_dict_row) trial (Ok tt) l new
+      pub end_made : Acts end_dict_asks (naming_row end_dict_row) attempt (Ok tt) l new
       end_made =
-          left_acts (naming_row end_dict_row) trial end_dict_asks l good new
+          left_acts (naming_row end_dict_row) attempt end_dict_asks l good new
           (record {
             sound = changed.sound;
             operands = changed.operands;
@@ -399,4 +399,4 @@ module _ (l : Lent) (depth : ℕ) (mark : IsMarkAt l.operands depth) (elements :
             capacity = omega arith;
             scratch = least;
           })
-          (logs_more 0 _ l.grants grants trial.slot (omega arith) logs) is_made
+          (logs_more 0 _ l.grants grants attempt.slot (omega arith) logs) is_made

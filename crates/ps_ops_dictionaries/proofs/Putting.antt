@@ -30,7 +30,7 @@ use Rattle.ps_ops_operands.specs.declared.failure.NotMade.{NotMade as Reason}
 use Rattle.ps_ops_operands.specs.Changes.{KeepsLogsWithin, most_records, values_in, records_asked, words_asked}
 use Rattle.ps_ops_operands.proofs.Held.{rest_held}
 use Rattle.ps_ops_state.specs.declared.breaks.Break.TheVariants.{NotMade}
-use Rattle.ps_ops_state.specs.declared.lent.Trial.{Trial}
+use Rattle.ps_ops_state.specs.declared.lent.Attempt.{Attempt}
 use Rattle.ps_ops_state.specs.Lent.{Lent, Rooms, scene_of, IsShown, IsGood}
 use Rattle.ps_ops_state.specs.Acts.{Needs, effect_in, needs_between, needs_of_refused, IsReason, Lasts, Acts, over}
 use Rattle.ps_ops_state.proofs.Reasons.{reason_as, as_many, as_large, grows_as, none_asked}
@@ -82,13 +82,13 @@ lacks_some false words is some = absurd (cc)
 -- ---- the note of a refused step
 
 -- the log lacks its records
-pub note_lack : (l : Lent) (trial : Trial) (grants : Grants) (scratch : Rooms) (n : ℕ) → 1 ≤ n
-    → (reason : Reason) → IsLack most_records 0 trial.slot l.heap l.grants grants reason
-    → IsReason (needs_of_refused scratch n) trial.slot l (record l { grants = grants }) reason
-note_lack l trial grants scratch zero some reason why = absurd (omega (arith, some))
-note_lack l trial grants scratch (suc n) some reason why =
-    reason_as (needs_of_refused scratch (suc n)) trial.slot l (record l { grants = grants })
-    (records_asked most_records trial.slot l.grants grants) (words_asked 0 0 l.heap) _
+pub note_lack : (l : Lent) (attempt : Attempt) (grants : Grants) (scratch : Rooms) (n : ℕ) → 1 ≤ n
+    → (reason : Reason) → IsLack most_records 0 attempt.slot l.heap l.grants grants reason
+    → IsReason (needs_of_refused scratch n) attempt.slot l (record l { grants = grants }) reason
+note_lack l attempt grants scratch zero some reason why = absurd (omega (arith, some))
+note_lack l attempt grants scratch (suc n) some reason why =
+    reason_as (needs_of_refused scratch (suc n)) attempt.slot l (record l { grants = grants })
+    (records_asked most_records attempt.slot l.grants grants) (words_asked 0 0 l.heap) _
     (λ asked. refl) none_asked (λ none. none_asked none.0) reason why
 
 -- of a change of so many records and words
@@ -105,7 +105,7 @@ lack_reason needs slot l new records words records_are words_are born =
 
 module _ (l : Lent) (good : IsGood l) (a : ℕ) (k x : Word) (count : ℕ) (plan : PutPlan)
     (known : StandsAs l.heap DictionaryKind a 4) (k_held : IsValue l.heap k)
-    (plan_is : plan ≡ plan_at l.heap a k) (possible : plan ≢ Full) (trial : Trial)
+    (plan_is : plan ≡ plan_at l.heap a k) (possible : plan ≢ Full) (attempt : Attempt)
     (inside : (store : Store) → IsShown l store
     → IsWithin (birth_at l.heap) l.names store k × IsWithin (birth_at l.heap) l.names store x)
   where
@@ -171,17 +171,17 @@ module _ (l : Lent) (good : IsGood l) (a : ℕ) (k x : Word) (count : ℕ) (plan
           (there l.heap a known good.sound l.names store shown.shows)
           ∙ (put_room before after key value few held_then.1 ∙ ap words_of planned_is)
 
-      enough : (IsTrue trial.refused → words_of plan ≡ 0)
-          → lacks_room trial.refused store left_store ≡ false
-      enough room = enough_room trial.refused (made_between store left_store)
+      enough : (IsTrue attempt.refused → words_of plan ≡ 0)
+          → lacks_room attempt.refused store left_store ≡ false
+      enough room = enough_room attempt.refused (made_between store left_store)
           (λ refused. words_are ∙ room refused)
 
       -- refused the room of a new body
-      pub lacking : trial.refused ≡ true → 0 < words_of plan
-          → lacks_room trial.refused store left_store ≡ true
+      pub lacking : attempt.refused ≡ true → 0 < words_of plan
+          → lacks_room attempt.refused store left_store ≡ true
       lacking refused some =
           let same = words_are in
-          lacks_some trial.refused (made_between store left_store) refused (omega (arith, same, some))
+          lacks_some attempt.refused (made_between store left_store) refused (omega (arith, same, some))
 
       lasts : Lasts store left_store
       lasts = with-lengths store birth before after
@@ -196,21 +196,21 @@ module _ (l : Lent) (good : IsGood l) (a : ℕ) (k x : Word) (count : ℕ) (plan
           let same = length-set store birth (dictionary_object after) in omega (arith, same)
 
       lack_is : (new : Grants) (reason : Reason)
-          → IsLack (records_of plan) (words_of plan) trial.slot l.heap l.grants new reason
+          → IsLack (records_of plan) (words_of plan) attempt.slot l.heap l.grants new reason
           → IsReason (needs_between (putting_asks (birth_at l.heap) a k (scene_of l store))
-          (scene_of l store) left_scene []) trial.slot l (record l { grants = new }) reason
+          (scene_of l store) left_scene []) attempt.slot l (record l { grants = new }) reason
       lack_is new reason =
-          lack_reason _ trial.slot l (record l { grants = new }) (records_of plan) (words_of plan)
+          lack_reason _ attempt.slot l (record l { grants = new }) (records_of plan) (words_of plan)
           records_are words_are births_same reason
 
-    pub lacking_acts : (IsTrue trial.refused → words_of plan ≡ 0) → (grants : Grants)
-        → KeepsLogsWithin 0 l.grants grants trial.slot
+    pub lacking_acts : (IsTrue attempt.refused → words_of plan ≡ 0) → (grants : Grants)
+        → KeepsLogsWithin 0 l.grants grants attempt.slot
         → (reason : Reason)
-        → IsLack (records_of plan) (words_of plan) trial.slot l.heap l.grants grants reason
-        → Acts (putting_asks (birth_at l.heap) a k) (putting (birth_at l.heap) a k x count) trial
+        → IsLack (records_of plan) (words_of plan) attempt.slot l.heap l.grants grants reason
+        → Acts (putting_asks (birth_at l.heap) a k) (putting (birth_at l.heap) a k x count) attempt
         (Err (NotMade reason)) l (record l { grants = grants })
     lacking_acts room grants logs reason why =
-        wanting_acts (putting (birth_at l.heap) a k x count) trial
+        wanting_acts (putting (birth_at l.heap) a k x count) attempt
         (putting_asks (birth_at l.heap) a k) l good grants l.room l.scratch (omega arith)
         (at_least-same _) good.empty logs reason
         λ store shown. record {
@@ -221,25 +221,25 @@ module _ (l : Lent) (good : IsGood l) (a : ℕ) (k x : Word) (count : ℕ) (plan
           why = lack_is store shown grants reason why;
         }
 
-    pub put_acts : (IsTrue trial.refused → words_of plan ≡ 0) → (new : Heap) (mid left : Grants) → IsSound new
+    pub put_acts : (IsTrue attempt.refused → words_of plan ≡ 0) → (new : Heap) (mid left : Grants) → IsSound new
         → (keeps : Keeps l.heap new)
-        → KeepsLogsWithin 0 l.grants mid trial.slot
-        → AfterChange mid left trial.slot (records_of plan) (words_of plan)
+        → KeepsLogsWithin 0 l.grants mid attempt.slot
+        → AfterChange mid left attempt.slot (records_of plan) (words_of plan)
         → ((store : Store) → IsShown l store → (d : Dictionary)
         → holding (dictionary_at store birth) (put_pair (dictionary_at store birth).pairs
         (key, value)) ≡ Some d → Shows new l.names (with_dictionary store birth d))
-        → Acts (putting_asks (birth_at l.heap) a k) (putting (birth_at l.heap) a k x count) trial
+        → Acts (putting_asks (birth_at l.heap) a k) (putting (birth_at l.heap) a k x count) attempt
         (Ok tt) l (over l new left (drop count l.operands))
     put_acts room new mid left sound keeps asked change shows =
-        let logs = logs_changed l.grants mid left trial.slot _ _ asked change in
+        let logs = logs_changed l.grants mid left attempt.slot _ _ asked change in
         let words = drop count l.operands in
         let held = rest_held (IsValue l.heap) l.operands good.operands count in
-        left_acts (putting (birth_at l.heap) a k x count) trial (putting_asks (birth_at l.heap) a k)
+        left_acts (putting (birth_at l.heap) a k x count) attempt (putting_asks (birth_at l.heap) a k)
         l good (over l new left words)
         (changed_good l good new left words keeps
         (record { sound = sound; values = AreValues-kept l.heap new keeps words held }))
         keeps (stays_as l _ refl refl refl refl (omega arith) (at_least-same _))
-        (logs_more _ most_records l.grants left trial.slot (few_records plan) logs)
+        (logs_more _ most_records l.grants left attempt.slot (few_records plan) logs)
         λ store shown.
         let is_left = changed_left l good new left words keeps store (left_store store shown)
         (lasts store shown) shown (shows store shown _ (held_then store shown).1)
@@ -257,7 +257,7 @@ module _ (l : Lent) (good : IsGood l) (a : ℕ) (k x : Word) (count : ℕ) (plan
           shown = is_left.shown;
           lasts = lasts store shown;
           printed = sym (append-nil l.printed);
-          logs = subst (λ (n : ℕ). KeepsLogsWithin n l.grants left trial.slot)
+          logs = subst (λ (n : ℕ). KeepsLogsWithin n l.grants left attempt.slot)
               (sym (records_are store shown)) logs;
         }
 

@@ -41,7 +41,7 @@ use Rattle.ps_ops_operands.proofs.Held.{rest_held, first_of_two_held}
 use Rattle.ps_ops_operands.proofs.Operands.{first_two_split}
 use Rattle.ps_ops_types.proofs.Accesses.{dictionary_has}
 use Rattle.ps_ops_state.specs.declared.breaks.Break.TheVariants.{NotMade}
-use Rattle.ps_ops_state.specs.declared.lent.Trial.{Trial}
+use Rattle.ps_ops_state.specs.declared.lent.Attempt.{Attempt}
 use Rattle.ps_ops_state.specs.declared.lent.Scratch.{Scratch}
 use Rattle.ps_ops_state.specs.Lent.{Lent, rooms_of, IsEmpty, scene_of, IsShown, IsGood}
 use Rattle.ps_ops_state.specs.Acts.{IsAtLeast, nothing_asked, needs_between, IsReason, effect_in, Acts}
@@ -67,7 +67,7 @@ module _ (l : Lent) (good : IsGood l) (a : ℕ) (k : Word)
     (known : StandsAs l.heap DictionaryKind a 4)
     (places : Option ℕ) (at : (store : Store) → IsShown l store
     → places ≡ first_place (dictionary_at store (birth_at l.heap a)).pairs
-    (value_of (birth_at l.heap) l.names k)) (trial : Trial) where
+    (value_of (birth_at l.heap) l.names k)) (attempt : Attempt) where
   abbrev birth : ℕ
   birth = birth_at l.heap a
 
@@ -104,10 +104,10 @@ module _ (l : Lent) (good : IsGood l) (a : ℕ) (k : Word)
 
   -- the key is absent
   pub absent_acts : places ≡ None
-      → Acts (removing_asks (birth_at l.heap) a k) (removing (birth_at l.heap) a k) trial (Ok tt) l
+      → Acts (removing_asks (birth_at l.heap) a k) (removing (birth_at l.heap) a k) attempt (Ok tt) l
       (record l { operands = rest })
   absent_acts none =
-      words_acts (removing (birth_at l.heap) a k) trial (removing_asks (birth_at l.heap) a k) l
+      words_acts (removing (birth_at l.heap) a k) attempt (removing_asks (birth_at l.heap) a k) l
       rest good (rest_held (IsValue l.heap) l.operands good.operands 2) λ store shown.
       let same = without-absent (before store shown).pairs key (sym (at store shown) ∙ none) in
       record {
@@ -144,72 +144,72 @@ module _ (l : Lent) (good : IsGood l) (a : ℕ) (k : Word)
         by false = omega arith
 
     module _ (grants : Grants) (scratch : Scratch)
-        (logs : KeepsLogsWithin 0 l.grants grants trial.slot)
+        (logs : KeepsLogsWithin 0 l.grants grants attempt.slot)
         (least : IsAtLeast (rooms_of l.scratch) (rooms_of scratch)) (empty : IsEmpty scratch) where
       wants : (reason : Reason) → ((store : Store) → (shown : IsShown l store)
           → IsReason (needs_between (removing_asks (birth_at l.heap) a k (scene_of l store))
-          (scene_of l store) (left_scene store shown) []) trial.slot l
+          (scene_of l store) (left_scene store shown) []) attempt.slot l
           (record l { grants = grants; scratch = scratch }) reason)
-          → Acts (removing_asks (birth_at l.heap) a k) (removing (birth_at l.heap) a k) trial
+          → Acts (removing_asks (birth_at l.heap) a k) (removing (birth_at l.heap) a k) attempt
           (Err (NotMade reason)) l (record l { grants = grants; scratch = scratch })
       wants reason why =
-          wanting_acts (removing (birth_at l.heap) a k) trial (removing_asks (birth_at l.heap) a k)
+          wanting_acts (removing (birth_at l.heap) a k) attempt (removing_asks (birth_at l.heap) a k)
           l good grants l.room scratch (omega arith) least empty logs reason λ store shown. record {
             scene = left_scene store shown;
             output = [];
             is = refl;
-            enough = lacks_nothing trial.refused store (later store shown) (unasked store shown);
+            enough = lacks_nothing attempt.refused store (later store shown) (unasked store shown);
             why = why store shown;
           }
 
       -- for want of room for the index
       pub roomless_acts : vec_capacity l.scratch.words < capacity_at l.heap a
-          → Acts (removing_asks (birth_at l.heap) a k) (removing (birth_at l.heap) a k) trial
+          → Acts (removing_asks (birth_at l.heap) a k) (removing (birth_at l.heap) a k) attempt
           (Err (NotMade Memory)) l (record l { grants = grants; scratch = scratch })
       roomless_acts short = wants Memory λ store shown.
           let words = words_are store shown in
           inr (inr (inr (inr (inr (omega (arith, words, short))))))
 
     -- for want of records
-    pub recordless_acts : (grants : Grants) → KeepsLogsWithin 0 l.grants grants trial.slot
+    pub recordless_acts : (grants : Grants) → KeepsLogsWithin 0 l.grants grants attempt.slot
         → (reason : Reason)
-        → IsLack (removal_records (count_at l.heap a) place) 0 trial.slot l.heap l.grants grants
+        → IsLack (removal_records (count_at l.heap a) place) 0 attempt.slot l.heap l.grants grants
         reason
-        → Acts (removing_asks (birth_at l.heap) a k) (removing (birth_at l.heap) a k) trial
+        → Acts (removing_asks (birth_at l.heap) a k) (removing (birth_at l.heap) a k) attempt
         (Err (NotMade reason)) l (record l { grants = grants })
     recordless_acts grants logs reason lack =
         wants grants l.scratch logs (at_least-same _) good.empty reason (by reason lack)
       where
         by : (reason : Reason)
-            → IsLack (removal_records (count_at l.heap a) place) 0 trial.slot l.heap l.grants grants
+            → IsLack (removal_records (count_at l.heap a) place) 0 attempt.slot l.heap l.grants grants
             reason → (store : Store) → (shown : IsShown l store)
             → IsReason (needs_between (removing_asks (birth_at l.heap) a k (scene_of l store))
-            (scene_of l store) (left_scene store shown) []) trial.slot l
+            (scene_of l store) (left_scene store shown) []) attempt.slot l
             (record l { grants = grants }) reason
         by reason why store shown =
             let records = removal_records (count_at l.heap a) place in
             let new : Lent = record l { grants = grants } in
             let needs = needs_between (removing_asks (birth_at l.heap) a k (scene_of l store))
             (scene_of l store) (left_scene store shown) [] in
-            reason_as needs trial.slot l new (records_asked records trial.slot l.grants grants)
+            reason_as needs attempt.slot l new (records_asked records attempt.slot l.grants grants)
             (words_asked 0 0 l.heap) _
-            (λ asked. as_many needs trial.slot l new records (records_are store shown)) none_asked
+            (λ asked. as_many needs attempt.slot l new records (records_are store shown)) none_asked
             (λ none. none_asked none.0) reason why
 
     pub removed_acts : (new : Heap) (mid left : Grants) (scratch : Scratch) → IsSound new
-        → Keeps l.heap new → KeepsLogsWithin 0 l.grants mid trial.slot
-        → AfterChange mid left trial.slot (removal_records (count_at l.heap a) place) 0
+        → Keeps l.heap new → KeepsLogsWithin 0 l.grants mid attempt.slot
+        → AfterChange mid left attempt.slot (removal_records (count_at l.heap a) place) 0
         → IsAtLeast (rooms_of l.scratch) (rooms_of scratch) → IsEmpty scratch
         → ((store : Store) → (shown : IsShown l store)
         → first_place (before store shown).pairs key ≡ Some place
         → Shows new l.names (later store shown))
-        → Acts (removing_asks (birth_at l.heap) a k) (removing (birth_at l.heap) a k) trial (Ok tt)
+        → Acts (removing_asks (birth_at l.heap) a k) (removing (birth_at l.heap) a k) attempt (Ok tt)
         l (record l { heap = new; grants = left; operands = rest; scratch = scratch })
     removed_acts new mid left scratch sound keeps asked change least empty shows =
-        let logs = logs_changed l.grants mid left trial.slot _ _ asked change in
-        store_acts (removing (birth_at l.heap) a k) trial (removing_asks (birth_at l.heap) a k) l
+        let logs = logs_changed l.grants mid left attempt.slot _ _ asked change in
+        store_acts (removing (birth_at l.heap) a k) attempt (removing_asks (birth_at l.heap) a k) l
         rest good (rest_held (IsValue l.heap) l.operands good.operands 2) new left scratch keeps
-        sound least empty (logs_more _ most_records l.grants left trial.slot few logs)
+        sound least empty (logs_more _ most_records l.grants left attempt.slot few logs)
         λ store shown. record {
           later = later store shown;
           is = ap (λ (vs : List Value). makes (record (scene_of l store)
@@ -219,7 +219,7 @@ module _ (l : Lent) (good : IsGood l) (a : ℕ) (k : Word)
               (stands store shown);
           shows = shows store shown (sym (at store shown) ∙ is);
           within = rest_held (IsWithin (birth_at l.heap) l.names store) l.operands shown.operands 2;
-          logs = subst (λ (n : ℕ). KeepsLogsWithin n l.grants left trial.slot)
+          logs = subst (λ (n : ℕ). KeepsLogsWithin n l.grants left attempt.slot)
               (sym (records_are store shown)) logs;
         }
 

@@ -38,7 +38,7 @@ use Rattle.ps_ops_operands.specs.Changes.{KeepsLogsWithin, values_in}
 use Rattle.ps_ops_control.specs.declared.frames.Cause.{Cause}
 use Rattle.ps_ops_state.specs.declared.breaks.Break.{Break}
 use Rattle.ps_ops_state.specs.declared.breaks.Break.TheVariants.{Unwinds, Raises, NotMade}
-use Rattle.ps_ops_state.specs.declared.lent.Trial.{Trial}
+use Rattle.ps_ops_state.specs.declared.lent.Attempt.{Attempt}
 use Rattle.ps_ops_state.specs.Lent.{Lent, scene_of, IsShown, IsGood}
 use Rattle.ps_ops_state.specs.Acts.{Asked, no_rooms, needs_of_refused, IsReason, effect_in, Acts}
 use Rattle.ps_ops_state.proofs.Acting.{FormsName, naming_acts, raised_acts}
@@ -257,13 +257,13 @@ module _ (l : Lent) (good : IsGood l) (a : ℕ) (k x : Word) (count : ℕ)
     asks = putting_key_asks births a k
 
     -- where memory for its name is refused
-    module _ (trial : Trial) (few : count_at l.heap a < 21845) where
+    module _ (attempt : Attempt) (few : count_at l.heap a < 21845) where
       wants_name : (reason : Reason) → IsForming l.names key (Err (NotMade reason))
-          → Acts asks row trial (Err (NotMade reason)) l l
+          → Acts asks row attempt (Err (NotMade reason)) l l
       wants_name reason done = by key refl done
         where
           wants : (text : ArrayVec ℕ) → key ≡ Unmet text → IsForming l.names key (Ok tt)
-              → (store : Store) → IsShown l store → FormsName row trial asks l store
+              → (store : Store) → IsShown l store → FormsName row attempt asks l store
           wants text is may store shown = record {
             scene = after_scene store shown (held store shown few).0;
             output = [];
@@ -273,15 +273,15 @@ module _ (l : Lent) (good : IsGood l) (a : ℕ) (k x : Word) (count : ℕ)
           }
 
           by : (other : Key) → key ≡ other → IsForming l.names other (Err (NotMade reason))
-              → Acts asks row trial (Err (NotMade reason)) l l
+              → Acts asks row attempt (Err (NotMade reason)) l l
           by (Met w) is it = absurd it
           by TooLong is it = absurd it
           by (Unmet text) is it =
               let room = it.1 in
               let may : IsForming l.names key (Ok tt) = rw is room in
-              subst (λ (r : Reason). Acts asks row trial (Err (NotMade r)) l l) (sym it.0)
-              (naming_acts row trial asks l good l.grants l.room l.scratch (omega arith)
-              (at_least-same _) good.empty (logs-same 0 l.grants trial.slot) (wants text is may))
+              subst (λ (r : Reason). Acts asks row attempt (Err (NotMade r)) l l) (sym it.0)
+              (naming_acts row attempt asks l good l.grants l.room l.scratch (omega arith)
+              (at_least-same _) good.empty (logs-same 0 l.grants attempt.slot) (wants text is may))
 
       never_unwinds : (other : Key) (cause : Cause)
           → IsForming l.names other (Err (Unwinds cause)) → ⊥
@@ -291,14 +291,14 @@ module _ (l : Lent) (good : IsGood l) (a : ℕ) (k x : Word) (count : ℕ)
 
       pub unmet_fault : (break : Break) → IsForming l.names key (Err break)
           → (names : List (List ℕ)) → names ≡ l.names
-          → Acts asks row trial (Err break) l (record l { names = names })
+          → Acts asks row attempt (Err break) l (record l { names = names })
       unmet_fault break done names same =
-          subst (λ (ns : List (List ℕ)). Acts asks row trial (Err break) l
+          subst (λ (ns : List (List ℕ)). Acts asks row attempt (Err break) l
           (record l { names = ns })) (sym same) (by break done)
         where
           by : (break : Break) → IsForming l.names key (Err break)
-              → Acts asks row trial (Err break) l l
-          by (Raises error) it = raised_acts row trial asks l good error
+              → Acts asks row attempt (Err break) l l
+          by (Raises error) it = raised_acts row attempt asks l good error
               (λ store shown. unmet_unformed store shown error it)
           by (NotMade reason) it = wants_name reason it
           by (Unwinds cause) it = absurd (never_unwinds key cause it)
@@ -348,50 +348,50 @@ module _ (l : Lent) (good : IsGood l) (a : ℕ) (k x : Word) (count : ℕ)
       pub unmet_good : AllPairs (λ one later. one ≢ later) names → IsGood formed
       unmet_good = formed_good l more names named.are good
 
-      module _ (trial : Trial) where
+      module _ (attempt : Attempt) where
         pub unmet_put : (new : Lent)
-            → Acts (putting_asks births a w) (putting births a w x count) trial (Ok tt) formed new
-            → Acts asks row trial (Ok tt) l new
+            → Acts (putting_asks births a w) (putting births a w x count) attempt (Ok tt) formed new
+            → Acts asks row attempt (Ok tt) l new
         unmet_put = formed_acts l more names named.are row (putting births a w x count) asks
-            (putting_asks births a w) trial effects asked
+            (putting_asks births a w) attempt effects asked
 
         pub unmet_unmade : (new : Lent) (break : Break)
             → (reason : Reason) × (break ≡ NotMade reason)
-            → Acts (putting_asks births a w) (putting births a w x count) trial (Err break) formed new
+            → Acts (putting_asks births a w) (putting births a w x count) attempt (Err break) formed new
             → (cut : List (List ℕ)) (place : ℕ) → place ≡ length l.names → cut ≡ take place new.names
-            → Acts asks row trial (Err break) l (record new { names = cut })
+            → Acts asks row attempt (Err break) l (record new { names = cut })
         unmet_unmade new break why acts cut place place_is is =
             let same : cut ≡ l.names =
             is ∙ (ap (take place) (acts.stays.names
             ∙ ap (λ (ns : List (List ℕ)). ns ++ acts.stays.formed) named.are)
             ∙ cut_names l.names more acts.stays.formed place place_is) in
-            subst (λ (ns : List (List ℕ)). Acts asks row trial (Err break) l
+            subst (λ (ns : List (List ℕ)). Acts asks row attempt (Err break) l
             (record new { names = ns })) (sym same)
-            (subst (λ (b : Break). Acts asks row trial (Err b) l (record new { names = l.names }))
+            (subst (λ (b : Break). Acts asks row attempt (Err b) l (record new { names = l.names }))
             (sym why.1)
             (unmade_acts l more names named.are row (putting births a w x count) asks
-            (putting_asks births a w) trial effects asked good why.0 new
-            (subst (λ (b : Break). Acts (putting_asks births a w) (putting births a w x count) trial
+            (putting_asks births a w) attempt effects asked good why.0 new
+            (subst (λ (b : Break). Acts (putting_asks births a w) (putting births a w x count) attempt
             (Err b) formed new) why.1 acts)))
 
         -- ---- a refused step
         module _ (distinct : AllPairs (λ one later. one ≢ later) names) (w_held : IsValue l.heap w)
             (plan : PutPlan) (plan_is : plan ≡ plan_at l.heap a w) (possible : plan ≢ Full)
-            (refused : trial.refused ≡ true) (some : 0 < words_of plan) (grants : Grants)
-            (logs : KeepsLogsWithin 0 l.grants grants trial.slot) where
+            (refused : attempt.refused ≡ true) (some : 0 < words_of plan) (grants : Grants)
+            (logs : KeepsLogsWithin 0 l.grants grants attempt.slot) where
           lacks : (store : Store) → IsShown l store
-              → Lacks l more names named.are row trial grants store
+              → Lacks l more names named.are row attempt grants store
           lacks store shown =
               let there = (formed_left l more names named.are store shown).shown in
               let well = unmet_good distinct in
               record {
-                scene = left_scene formed well a w x count plan known w_held plan_is possible trial
+                scene = left_scene formed well a w x count plan known w_held plan_is possible attempt
                     inside_formed store there;
                 output = [];
                 is = effects store shown ∙ effect_is formed well a w x count plan known w_held
-                    plan_is possible trial inside_formed store there;
+                    plan_is possible attempt inside_formed store there;
                 names_are = refl;
-                lacking = lacking formed well a w x count plan known w_held plan_is possible trial
+                lacking = lacking formed well a w x count plan known w_held plan_is possible attempt
                     inside_formed store there refused some;
               }
 
@@ -401,23 +401,23 @@ module _ (l : Lent) (good : IsGood l) (a : ℕ) (k x : Word) (count : ℕ)
 
           pub unmet_refused : (after : List (List ℕ)) (place : ℕ) → place ≡ length l.names
               → (break : Break)
-              → IsRefusal trial.slot l.heap names after place l.grants grants break
-              → Acts asks row trial (Err break) l (record l { grants = grants; names = after })
+              → IsRefusal attempt.slot l.heap names after place l.grants grants break
+              → Acts asks row attempt (Err break) l (record l { grants = grants; names = after })
           unmet_refused after place place_is (Raises error) it =
-              subst (λ (e : ErrorName). Acts asks row trial (Err (Raises e)) l
+              subst (λ (e : ErrorName). Acts asks row attempt (Err (Raises e)) l
               (record l { grants = grants; names = after })) (sym it.0)
-              (subst (λ (ns : List (List ℕ)). Acts asks row trial (Err (Raises VmError)) l
+              (subst (λ (ns : List (List ℕ)). Acts asks row attempt (Err (Raises VmError)) l
               (record l { grants = grants; names = ns })) (sym it.1)
-              (refused_acts l more names named.are row trial grants asks (unmet_good distinct) logs
+              (refused_acts l more names named.are row attempt grants asks (unmet_good distinct) logs
               (inr (it.2, it.3)) lacks))
           unmet_refused after place place_is (NotMade reason) it =
               let same : after ≡ l.names =
               it.0 ∙ (ap (take place) (named.are ∙ sym (append-nil (l.names ++ more)))
               ∙ cut_names l.names more [] place place_is) in
-              subst (λ (ns : List (List ℕ)). Acts asks row trial (Err (NotMade reason)) l
+              subst (λ (ns : List (List ℕ)). Acts asks row attempt (Err (NotMade reason)) l
               (record l { grants = grants; names = ns })) (sym same)
-              (unnoted_acts l more names named.are row trial grants asks good logs reason lacks
-              (λ store. subst (λ (n : ℕ). IsReason (needs_of_refused no_rooms n) trial.slot l
+              (unnoted_acts l more names named.are row attempt grants asks good logs reason lacks
+              (λ store. subst (λ (n : ℕ). IsReason (needs_of_refused no_rooms n) attempt.slot l
               (record l { grants = grants }) reason) (sym one_more)
-              (note_lack l trial grants no_rooms 1 (omega arith) reason it.1)))
+              (note_lack l attempt grants no_rooms 1 (omega arith) reason it.1)))
           unmet_refused after place place_is (Unwinds cause) it = absurd it

@@ -11,7 +11,7 @@ ghost use Rattle.ps_mem.specs.Shows.{IsSound};
 ghost use Rattle.ps_dict.specs.Merges as merges;
 ghost use Rattle.ps_dict.specs.Merges.{merge_plan_at};
 ghost use Rattle.ps_ops_state.specs.Acts.{Acts};
-ghost use Rattle.ps_ops_state.specs.Lent.{lent, IsGood};
+ghost use Rattle.ps_ops_state.specs.Lent.{lent_of, IsGood};
 ghost use Rattle.ps_ops_dictionaries.specs.Asks.{copy_asks};
 
 use crate::puts::asked;
@@ -24,7 +24,7 @@ use ps_mem::Memory;
 use ps_ops_operands::access::may_copy;
 use ps_ops_operands::failure::NotMade;
 use ps_ops_state::breaks::Break;
-use ps_ops_state::lent::{Context, Shared, Trial};
+use ps_ops_state::lent::{Attempt, Context, Runtime};
 use ps_word::words::Word;
 
 /// Whether the pairs of one dictionary may be put into another. Raises `limitcheck` where they
@@ -68,9 +68,8 @@ fn test_merge<M: Memory>(memory: &mut M, refused: bool, to: u32, from: u32) -> R
 /// together, of records, or of room for the new body.
 pub fn copy_dictionary<M: Memory>(
     context: &mut Context,
-    shared: &mut Shared,
-    memory: &mut M,
-    trial: Trial,
+    runtime: &mut Runtime<M>,
+    attempt: Attempt,
     operands: (Word, Word),
     to: u32,
     from: u32,
@@ -78,39 +77,48 @@ pub fn copy_dictionary<M: Memory>(
     requires operands { Some operands ≡ first_two_of context.old.operands }
     requires target { Some to ≡ readers.as_dictionary (content_in operands.0.0) }
     requires source { Some from ≡ readers.as_dictionary (content_in operands.1.0) }
-    requires good { IsGood
-        (lent (M.heap memory.old) (M.grants memory.old) context.old shared.old) }
-    ensures acts { Acts copy_asks (changing_row rows.copy_row) trial result
-        (lent (M.heap memory.old) (M.grants memory.old) context.old shared.old)
-        (lent (M.heap memory.new) (M.grants memory.new) context.new shared.new) }
+    requires good { IsGood (lent_of M.heap M.grants context.old runtime.old) }
+    ensures acts { Acts copy_asks (changing_row rows.copy_row) attempt result
+        (lent_of M.heap M.grants context.old runtime.old)
+        (lent_of M.heap M.grants context.new runtime.new) }
 {
-    let readable = access(memory, from);
-    let writable = access(memory, to);
+    let readable = access(&mut runtime.memory, from);
+    let writable = access(&mut runtime.memory, to);
     if !may_copy(readable, writable) {
         return Err(Break::Raises(ErrorName::InvalidAccess));
     }
-    if let Err(error) = test_merge(memory, trial.refused, to, from) {
+    if let Err(error) = test_merge(&mut runtime.memory, attempt.refused, to, from) {
         return Err(Break::Raises(error));
     }
-    let Ok(plan) = plan_merge(memory, to, from, &mut shared.scratch.words) else {
+    let Ok(plan) = plan_merge(
+        &mut runtime.memory,
+        to,
+        from,
+        &mut runtime.shared.scratch.words,
+    ) else {
         return Err(Break::NotMade(NotMade::Memory));
     };
-    match asked(memory, trial.slot, plan.records(), plan.words()) {
+    match asked(
+        &mut runtime.memory,
+        attempt.slot,
+        plan.records(),
+        plan.words(),
+    ) {
         Ok(()) => {
             put_merged(
-                memory,
-                trial.slot,
+                &mut runtime.memory,
+                attempt.slot,
                 to,
                 from,
                 plan,
-                shared.scratch.words.as_slice(),
+                runtime.shared.scratch.words.as_slice(),
             );
-            shared.scratch.words.clear();
+            runtime.shared.scratch.words.clear();
             context.operands.replace(2, operands.0);
             Ok(())
         }
         Err(reason) => {
-            shared.scratch.words.clear();
+            runtime.shared.scratch.words.clear();
             Err(Break::NotMade(reason))
         }
     }

@@ -13,7 +13,7 @@ ghost use Rattle.ps_mem.specs.Heap.{birth_at};
 ghost use Rattle.ps_mem.specs.Shows.{AreValues, IsSound, IsValue, Shows};
 ghost use Rattle.ps_ops_operands.specs.Changes.{values_in};
 ghost use Rattle.ps_ops_state.specs.Acts.{Acts};
-ghost use Rattle.ps_ops_state.specs.Lent.{lent, IsGood};
+ghost use Rattle.ps_ops_state.specs.Lent.{lent_of, IsGood};
 ghost use Rattle.ps_step_lookup.specs.Lookups.{IsSought};
 ghost use Rattle.ps_ops_dictionaries.specs.Asks.{def_asks, put_asks, store_asks};
 ghost use Rattle.ps_ops_dictionaries.specs.Places.{IsPlaced};
@@ -22,7 +22,7 @@ use crate::puts::{Entry, put_entry, put_key};
 use ps_language::errors::ErrorName;
 use ps_mem::Memory;
 use ps_ops_state::breaks::Break;
-use ps_ops_state::lent::{Context, Dictionaries, Shared, Trial};
+use ps_ops_state::lent::{Attempt, Context, Dictionaries, Runtime};
 use ps_step_lookup::keys::{is_null, is_readable_key, read_key};
 use ps_step_lookup::lookups::look_up;
 use ps_word::words::Word;
@@ -34,15 +34,13 @@ use ps_word::words::Word;
 /// `VMerror` in a refused step. Not made for want of memory for a name, of records or of room.
 pub fn def<M: Memory>(
     context: &mut Context,
-    shared: &mut Shared,
-    memory: &mut M,
-    trial: Trial,
+    runtime: &mut Runtime<M>,
+    attempt: Attempt,
 ) -> Result<(), Break>
-    requires good { IsGood
-        (lent (M.heap memory.old) (M.grants memory.old) context.old shared.old) }
-    ensures acts { Acts def_asks (looking_row rows.def_row) trial result
-        (lent (M.heap memory.old) (M.grants memory.old) context.old shared.old)
-        (lent (M.heap memory.new) (M.grants memory.new) context.new shared.new) }
+    requires good { IsGood (lent_of M.heap M.grants context.old runtime.old) }
+    ensures acts { Acts def_asks (looking_row rows.def_row) attempt result
+        (lent_of M.heap M.grants context.old runtime.old)
+        (lent_of M.heap M.grants context.new runtime.new) }
     ensures frames { context.new.frames ≡ context.old.frames }
 {
     let Some((value, key)) = context.operands.top_two() else {
@@ -66,7 +64,7 @@ pub fn def<M: Memory>(
         value,
         operands: 2,
     };
-    put_entry(context, shared, memory, trial, entry)
+    put_entry(context, runtime, attempt, entry)
 }
 
 /// `D k x put` into a dictionary, given by its word and its address.
@@ -74,19 +72,17 @@ pub fn def<M: Memory>(
 /// Raises and is not made as `def`.
 pub fn put_into_dictionary<M: Memory>(
     context: &mut Context,
-    shared: &mut Shared,
-    memory: &mut M,
-    trial: Trial,
+    runtime: &mut Runtime<M>,
+    attempt: Attempt,
     operands: (Word, Word, Word),
     address: u32,
 ) -> Result<(), Break>
     requires operands { Some operands ≡ first_three_of context.old.operands }
     requires address { Some address ≡ readers.as_dictionary (content_in operands.2.0) }
-    requires good { IsGood
-        (lent (M.heap memory.old) (M.grants memory.old) context.old shared.old) }
-    ensures acts { Acts put_asks (naming_row rows.put_row) trial result
-        (lent (M.heap memory.old) (M.grants memory.old) context.old shared.old)
-        (lent (M.heap memory.new) (M.grants memory.new) context.new shared.new) }
+    requires good { IsGood (lent_of M.heap M.grants context.old runtime.old) }
+    ensures acts { Acts put_asks (naming_row rows.put_row) attempt result
+        (lent_of M.heap M.grants context.old runtime.old)
+        (lent_of M.heap M.grants context.new runtime.new) }
     ensures frames { context.new.frames ≡ context.old.frames }
 {
     let (value, key, _) = operands;
@@ -102,7 +98,7 @@ pub fn put_into_dictionary<M: Memory>(
         value,
         operands: 3,
     };
-    put_entry(context, shared, memory, trial, entry)
+    put_entry(context, runtime, attempt, entry)
 }
 
 /// Where `store` puts a key: the dictionary where it was found, else the current one. Raises
@@ -139,15 +135,13 @@ fn storing_place<M: Memory>(
 /// read is come to first.
 pub fn store<M: Memory>(
     context: &mut Context,
-    shared: &mut Shared,
-    memory: &mut M,
-    trial: Trial,
+    runtime: &mut Runtime<M>,
+    attempt: Attempt,
 ) -> Result<(), Break>
-    requires good { IsGood
-        (lent (M.heap memory.old) (M.grants memory.old) context.old shared.old) }
-    ensures acts { Acts store_asks (looking_row rows.store_row) trial result
-        (lent (M.heap memory.old) (M.grants memory.old) context.old shared.old)
-        (lent (M.heap memory.new) (M.grants memory.new) context.new shared.new) }
+    requires good { IsGood (lent_of M.heap M.grants context.old runtime.old) }
+    ensures acts { Acts store_asks (looking_row rows.store_row) attempt result
+        (lent_of M.heap M.grants context.old runtime.old)
+        (lent_of M.heap M.grants context.new runtime.new) }
 {
     let Some((value, key)) = context.operands.top_two() else {
         return Err(Break::Raises(ErrorName::StackUnderflow));
@@ -158,8 +152,8 @@ pub fn store<M: Memory>(
     if !is_readable_key(key) {
         return Err(Break::Raises(ErrorName::InvalidAccess));
     }
-    let read = read_key(memory, &shared.names, key);
-    match storing_place(memory, &context.dictionaries, read.word()) {
+    let read = read_key(&mut runtime.memory, &runtime.shared.names, key);
+    match storing_place(&mut runtime.memory, &context.dictionaries, read.word()) {
         Ok(Some(dictionary)) => {
             let Some(address) = dictionary.as_dictionary() else {
                 return Err(Break::Raises(ErrorName::TypeCheck));
@@ -170,7 +164,7 @@ pub fn store<M: Memory>(
                 value,
                 operands: 2,
             };
-            put_key(context, shared, memory, trial, entry, &read)
+            put_key(context, runtime, attempt, entry, &read)
         }
         Ok(None) => Err(Break::Raises(ErrorName::TypeCheck)),
         Err(error) => Err(Break::Raises(error)),

@@ -7,7 +7,7 @@ ghost use Rattle.ps_stacks.specs.Tops.{first_two_of};
 ghost use Rattle.ps_word.specs.Format.{content_in};
 ghost use Rattle.ps_word.specs.Readers as readers;
 ghost use Rattle.ps_ops_state.specs.Acts.{Acts, nothing_asked};
-ghost use Rattle.ps_ops_state.specs.Lent.{lent, IsGood};
+ghost use Rattle.ps_ops_state.specs.Lent.{lent_of, IsGood};
 
 use ps_dict::dictionaries::access;
 use ps_language::errors::ErrorName;
@@ -15,7 +15,7 @@ use ps_mem::Memory;
 use ps_ops_operands::access::is_readable;
 use ps_ops_operands::plain::boolean;
 use ps_ops_state::breaks::Break;
-use ps_ops_state::lent::{Context, Shared, Trial};
+use ps_ops_state::lent::{Attempt, Context, Runtime};
 use ps_step_lookup::keys::{form_key, is_null, is_readable_key, read_key};
 use ps_step_lookup::lookups::{find_in, look_up};
 use ps_word::words::Word;
@@ -24,16 +24,12 @@ use ps_word::words::Word;
 ///
 /// Raises `stackunderflow`, `typecheck`, `invalidaccess`, and `limitcheck` of a name. Not made, by
 /// `Memory`, where the growth for a name is refused.
-pub fn known<M: Memory>(
-    context: &mut Context,
-    shared: &mut Shared,
-    memory: &mut M,
-) -> Result<(), Break>
-    requires good { IsGood
-        (lent (M.heap memory.old) (M.grants memory.old) context.old shared.old) }
-    ensures acts { (trial : Trial) → Acts nothing_asked (naming_row rows.known_row) trial result
-        (lent (M.heap memory.old) (M.grants memory.old) context.old shared.old)
-        (lent (M.heap memory.new) (M.grants memory.new) context.new shared.new) }
+pub fn known<M: Memory>(context: &mut Context, runtime: &mut Runtime<M>) -> Result<(), Break>
+    requires good { IsGood (lent_of M.heap M.grants context.old runtime.old) }
+    ensures acts { (attempt : Attempt) → Acts nothing_asked (naming_row rows.known_row) attempt
+        result
+        (lent_of M.heap M.grants context.old runtime.old)
+        (lent_of M.heap M.grants context.new runtime.new) }
     ensures frames { context.new.frames ≡ context.old.frames }
 {
     let Some((key, dictionary)) = context.operands.top_two() else {
@@ -48,12 +44,12 @@ pub fn known<M: Memory>(
     if !is_readable_key(key) {
         return Err(Break::Raises(ErrorName::InvalidAccess));
     }
-    if !is_readable(access(memory, address)) {
+    if !is_readable(access(&mut runtime.memory, address)) {
         return Err(Break::Raises(ErrorName::InvalidAccess));
     }
-    let sought = read_key(memory, &shared.names, key);
-    let found = find_in(memory, address, sought.word()).is_some();
-    match form_key(&mut shared.names, &sought) {
+    let sought = read_key(&mut runtime.memory, &runtime.shared.names, key);
+    let found = find_in(&mut runtime.memory, address, sought.word()).is_some();
+    match form_key(&mut runtime.shared.names, &sought) {
         Ok(()) => {
             context.operands.replace(2, boolean(found));
             Ok(())
@@ -67,19 +63,17 @@ pub fn known<M: Memory>(
 /// Raises `typecheck` of a null, `invalidaccess`, and `undefined` where the key is absent.
 pub fn get_from_dictionary<M: Memory>(
     context: &mut Context,
-    shared: &mut Shared,
-    memory: &mut M,
+    runtime: &mut Runtime<M>,
     key: Word,
     dictionary: Word,
     address: u32,
 ) -> Result<(), Break>
     requires operands { Some (key, dictionary) ≡ first_two_of context.old.operands }
     requires address { Some address ≡ readers.as_dictionary (content_in dictionary.0) }
-    requires good { IsGood
-        (lent (M.heap memory.old) (M.grants memory.old) context.old shared.old) }
-    ensures acts { (trial : Trial) → Acts nothing_asked (naming_row rows.get_row) trial result
-        (lent (M.heap memory.old) (M.grants memory.old) context.old shared.old)
-        (lent (M.heap memory.new) (M.grants memory.new) context.new shared.new) }
+    requires good { IsGood (lent_of M.heap M.grants context.old runtime.old) }
+    ensures acts { (attempt : Attempt) → Acts nothing_asked (naming_row rows.get_row) attempt result
+        (lent_of M.heap M.grants context.old runtime.old)
+        (lent_of M.heap M.grants context.new runtime.new) }
     ensures frames { context.new.frames ≡ context.old.frames }
 {
     if is_null(key) {
@@ -88,11 +82,11 @@ pub fn get_from_dictionary<M: Memory>(
     if !is_readable_key(key) {
         return Err(Break::Raises(ErrorName::InvalidAccess));
     }
-    if !is_readable(access(memory, address)) {
+    if !is_readable(access(&mut runtime.memory, address)) {
         return Err(Break::Raises(ErrorName::InvalidAccess));
     }
-    let sought = read_key(memory, &shared.names, key);
-    match find_in(memory, address, sought.word()) {
+    let sought = read_key(&mut runtime.memory, &runtime.shared.names, key);
+    match find_in(&mut runtime.memory, address, sought.word()) {
         Some(value) => {
             context.operands.replace(2, value);
             Ok(())
@@ -104,16 +98,12 @@ pub fn get_from_dictionary<M: Memory>(
 /// `k load x`: the value of a key in the topmost dictionary that has it.
 ///
 /// Raises `stackunderflow`, `typecheck`, `invalidaccess`, and `undefined` where none has it.
-pub fn load<M: Memory>(
-    context: &mut Context,
-    shared: &mut Shared,
-    memory: &mut M,
-) -> Result<(), Break>
-    requires good { IsGood
-        (lent (M.heap memory.old) (M.grants memory.old) context.old shared.old) }
-    ensures acts { (trial : Trial) → Acts nothing_asked (looking_row rows.load_row) trial result
-        (lent (M.heap memory.old) (M.grants memory.old) context.old shared.old)
-        (lent (M.heap memory.new) (M.grants memory.new) context.new shared.new) }
+pub fn load<M: Memory>(context: &mut Context, runtime: &mut Runtime<M>) -> Result<(), Break>
+    requires good { IsGood (lent_of M.heap M.grants context.old runtime.old) }
+    ensures acts { (attempt : Attempt) → Acts nothing_asked (looking_row rows.load_row) attempt
+        result
+        (lent_of M.heap M.grants context.old runtime.old)
+        (lent_of M.heap M.grants context.new runtime.new) }
     ensures frames { context.new.frames ≡ context.old.frames }
 {
     let Some(key) = context.operands.top() else {
@@ -125,8 +115,8 @@ pub fn load<M: Memory>(
     if !is_readable_key(key) {
         return Err(Break::Raises(ErrorName::InvalidAccess));
     }
-    let sought = read_key(memory, &shared.names, key);
-    match look_up(memory, &context.dictionaries, sought.word()) {
+    let sought = read_key(&mut runtime.memory, &runtime.shared.names, key);
+    match look_up(&mut runtime.memory, &context.dictionaries, sought.word()) {
         Ok(Some(found)) => {
             context.operands.replace(1, found.1);
             Ok(())
@@ -141,16 +131,12 @@ pub fn load<M: Memory>(
 ///
 /// Raises `stackunderflow`, `typecheck`, `invalidaccess`, `limitcheck` of a name, and
 /// `stackoverflow`. Not made, by `Memory`, where the growth for a name is refused.
-pub fn where_key<M: Memory>(
-    context: &mut Context,
-    shared: &mut Shared,
-    memory: &mut M,
-) -> Result<(), Break>
-    requires good { IsGood
-        (lent (M.heap memory.old) (M.grants memory.old) context.old shared.old) }
-    ensures acts { (trial : Trial) → Acts nothing_asked (looking_row rows.where_row) trial result
-        (lent (M.heap memory.old) (M.grants memory.old) context.old shared.old)
-        (lent (M.heap memory.new) (M.grants memory.new) context.new shared.new) }
+pub fn where_key<M: Memory>(context: &mut Context, runtime: &mut Runtime<M>) -> Result<(), Break>
+    requires good { IsGood (lent_of M.heap M.grants context.old runtime.old) }
+    ensures acts { (attempt : Attempt) → Acts nothing_asked (looking_row rows.where_row) attempt
+        result
+        (lent_of M.heap M.grants context.old runtime.old)
+        (lent_of M.heap M.grants context.new runtime.new) }
 {
     let Some(key) = context.operands.top() else {
         return Err(Break::Raises(ErrorName::StackUnderflow));
@@ -161,8 +147,8 @@ pub fn where_key<M: Memory>(
     if !is_readable_key(key) {
         return Err(Break::Raises(ErrorName::InvalidAccess));
     }
-    let sought = read_key(memory, &shared.names, key);
-    match look_up(memory, &context.dictionaries, sought.word()) {
+    let sought = read_key(&mut runtime.memory, &runtime.shared.names, key);
+    match look_up(&mut runtime.memory, &context.dictionaries, sought.word()) {
         Ok(Some(found)) => {
             if context.operands.is_full() {
                 return Err(Break::Raises(ErrorName::StackOverflow));
@@ -171,7 +157,7 @@ pub fn where_key<M: Memory>(
             context.operands.push_reserved(boolean(true));
             Ok(())
         }
-        Ok(None) => match form_key(&mut shared.names, &sought) {
+        Ok(None) => match form_key(&mut runtime.shared.names, &sought) {
             Ok(()) => {
                 context.operands.replace(1, boolean(false));
                 Ok(())

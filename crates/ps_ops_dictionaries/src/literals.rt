@@ -22,7 +22,7 @@ ghost use Rattle.ps_mem.specs.Shows.{AreValues, AreWithin, IsReady, IsSound, Sho
 ghost use Rattle.ps_names.specs.Names.{place_of};
 ghost use Rattle.ps_ops_operands.specs.Changes.{KeepsLogsWithin, values_in};
 ghost use Rattle.ps_ops_state.specs.Acts.{Acts};
-ghost use Rattle.ps_ops_state.specs.Lent.{lent, IsGood};
+ghost use Rattle.ps_ops_state.specs.Lent.{lent_of, IsGood};
 ghost use Rattle.ps_ops_dictionaries.specs.Asks.{end_dict_asks};
 ghost use Rattle.ps_ops_dictionaries.specs.Literals.{IsNamesFault, LacksPairs, LeavesAs};
 ghost use Rattle.ps_ops_dictionaries.specs.Literals.{is_unmet_as, making_pairs, met_among};
@@ -39,7 +39,7 @@ use ps_ops_operands::failure::NotMade;
 use ps_ops_operands::permits::granted;
 use ps_ops_operands::stack_operators::mark_depth;
 use ps_ops_state::breaks::Break;
-use ps_ops_state::lent::{Context, Shared, Trial};
+use ps_ops_state::lent::{Attempt, Context, Runtime};
 use ps_ops_strings::readers::string_of;
 use ps_step_lookup::keys::{Key, form_key, is_null, is_readable_key, read_key};
 use ps_word::words::Word;
@@ -358,35 +358,36 @@ fn make_pairs<M: Memory>(
 /// its words, or for the dictionary; no name is formed then.
 pub fn end_dict<M: Memory>(
     context: &mut Context,
-    shared: &mut Shared,
-    memory: &mut M,
-    trial: Trial,
+    runtime: &mut Runtime<M>,
+    attempt: Attempt,
 ) -> Result<(), Break>
-    requires good { IsGood
-        (lent (M.heap memory.old) (M.grants memory.old) context.old shared.old) }
-    ensures acts { Acts end_dict_asks (naming_row rows.end_dict_row) trial result
-        (lent (M.heap memory.old) (M.grants memory.old) context.old shared.old)
-        (lent (M.heap memory.new) (M.grants memory.new) context.new shared.new) }
+    requires good { IsGood (lent_of M.heap M.grants context.old runtime.old) }
+    ensures acts { Acts end_dict_asks (naming_row rows.end_dict_row) attempt result
+        (lent_of M.heap M.grants context.old runtime.old)
+        (lent_of M.heap M.grants context.new runtime.new) }
 {
     let Some(depth) = mark_depth(&context.operands) else {
         return Err(Break::Raises(ErrorName::UnmatchedMark));
     };
     let elements = context.operands.topmost(depth);
-    if let Err(error) = test_elements(memory, &shared.names, elements) {
+    if let Err(error) = test_elements(&mut runtime.memory, &runtime.shared.names, elements) {
         return Err(Break::Raises(error));
     }
-    let count = shared.names.len();
-    if let Err(fault) = form_names(memory, &mut shared.names, elements) {
-        shared.names.truncate(count);
+    let count = runtime.shared.names.len();
+    if let Err(fault) = form_names(&mut runtime.memory, &mut runtime.shared.names, elements) {
+        runtime.shared.names.truncate(count);
         return Err(fault);
     }
-    if trial.refused {
-        if shared.names.len() == count {
+    if attempt.refused {
+        if runtime.shared.names.len() == count {
             return Err(Break::Raises(ErrorName::VmError));
         }
-        return Err(refuse(&mut shared.names, memory, trial.slot, count));
+        let names = &mut runtime.shared.names;
+        return Err(refuse(names, &mut runtime.memory, attempt.slot, count));
     }
+    let shared = &mut runtime.shared;
     let words = &mut shared.scratch.words;
+    let memory = &mut runtime.memory;
     if let Err(reason) = make_pairs(&mut context.operands, memory, &shared.names, words, depth) {
         shared.names.truncate(count);
         return Err(Break::NotMade(reason));

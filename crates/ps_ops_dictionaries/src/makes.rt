@@ -12,7 +12,7 @@ ghost use Rattle.ps_mem.specs.References.{StandsAs};
 ghost use Rattle.ps_mem.specs.Shows.{IsReady, IsValue, IsWithin};
 ghost use Rattle.ps_ops_operands.specs.Changes.{KeepsLogsWithin, Makes};
 ghost use Rattle.ps_ops_state.specs.Acts.{Acts, nothing_asked};
-ghost use Rattle.ps_ops_state.specs.Lent.{lent, IsGood};
+ghost use Rattle.ps_ops_state.specs.Lent.{lent_of, IsGood};
 
 use ps_dict::makes::new_dictionary;
 use ps_dict::plans::CAPACITY_LIMIT;
@@ -25,7 +25,7 @@ use ps_ops_operands::integers::count_of;
 use ps_ops_operands::permits::granted;
 use ps_ops_operands::readers::integer_of;
 use ps_ops_state::breaks::{Break, tried};
-use ps_ops_state::lent::{Context, Shared, Trial};
+use ps_ops_state::lent::{Attempt, Context, Runtime};
 use ps_word::values::Content;
 use ps_word::words::Word;
 
@@ -85,15 +85,18 @@ fn make_empty<M: Memory>(
 /// `CAPACITY_LIMIT`, and `VMerror` in a refused step. Not made where there is no room.
 pub fn dict<M: Memory>(
     context: &mut Context,
-    shared: &mut Shared,
-    memory: &mut M,
-    trial: Trial,
+    runtime: &mut Runtime<M>,
+    attempt: Attempt,
 ) -> Result<(), Break>
-    requires good { IsGood
-        (lent (M.heap memory.old) (M.grants memory.old) context.old shared.old) }
-    ensures acts { Acts nothing_asked (changing_row rows.dict_row) trial result
-        (lent (M.heap memory.old) (M.grants memory.old) context.old shared.old)
-        (lent (M.heap memory.new) (M.grants memory.new) context.new shared.new) }
+    requires good { IsGood (lent_of M.heap M.grants context.old runtime.old) }
+    ensures acts { Acts nothing_asked (changing_row rows.dict_row) attempt result
+        (lent_of M.heap M.grants context.old runtime.old)
+        (lent_of M.heap M.grants context.new runtime.new) }
 {
-    tried(make_empty(&mut context.operands, memory, trial.slot, trial.refused))
+    tried(make_empty(
+        &mut context.operands,
+        &mut runtime.memory,
+        attempt.slot,
+        attempt.refused,
+    ))
 }

@@ -12,7 +12,7 @@ ghost use Rattle.ps_dict.specs.Puts as puts;
 ghost use Rattle.ps_dict.specs.Puts.{plan_at};
 ghost use Rattle.ps_ops_operands.specs.Changes.{KeepsLogsWithin};
 ghost use Rattle.ps_ops_state.specs.Acts.{Acts};
-ghost use Rattle.ps_ops_state.specs.Lent.{lent, IsGood, IsShown};
+ghost use Rattle.ps_ops_state.specs.Lent.{lent_of, IsGood, IsShown};
 ghost use Rattle.ps_step_lookup.specs.Keys.{IsKeyOf, word_in};
 ghost use Rattle.ps_ops_dictionaries.specs.Puts.{IsLack, IsRefusal, putting, putting_asks};
 ghost use Rattle.ps_ops_dictionaries.specs.Puts.{putting_key, putting_key_asks};
@@ -29,7 +29,7 @@ use ps_ops_operands::access::is_writable;
 use ps_ops_operands::failure::NotMade;
 use ps_ops_operands::permits::{MOST_RECORDS, granted, permitted};
 use ps_ops_state::breaks::Break;
-use ps_ops_state::lent::{Context, Shared, Trial};
+use ps_ops_state::lent::{Attempt, Context, Runtime};
 use ps_ops_strings::readers::string_of;
 use ps_step_lookup::keys::{Key, form_key, name_word, read_key};
 use ps_word::words::Word;
@@ -73,37 +73,38 @@ pub(crate) fn asked<M: Memory>(
 #[inline(always)]
 fn put_planned<M: Memory>(
     context: &mut Context,
-    shared: &mut Shared,
-    memory: &mut M,
+    runtime: &mut Runtime<M>,
     slot: Slot,
     plan: PutPlan,
     entry: Entry,
 ) -> Result<(), Break>
-    requires good { IsGood
-        (lent (M.heap memory.old) (M.grants memory.old) context.old shared.old) }
-    requires plan { plan ≡ plan_at (M.heap memory.old) entry.address entry.key }
+    requires good { IsGood (lent_of M.heap M.grants context.old runtime.old) }
+    requires plan { plan ≡ plan_at (M.heap runtime.old.memory) entry.address entry.key }
     requires possible { plan ≢ PutPlan.Full }
     requires limit { (capacity : ℕ) → plan ≡ PutPlan.Grow capacity → capacity ≤ capacity_limit }
-    requires known { StandsAs (M.heap memory.old) Kind.Dictionary entry.address 4 }
-    requires key { IsValue (M.heap memory.old) entry.key }
-    requires value { IsValue (M.heap memory.old) entry.value }
+    requires known { StandsAs (M.heap runtime.old.memory) Kind.Dictionary entry.address 4 }
+    requires key { IsValue (M.heap runtime.old.memory) entry.key }
+    requires value { IsValue (M.heap runtime.old.memory) entry.value }
     requires operands { entry.operands ≤ length context.old.operands }
-    ensures acts { (trial : Trial) → trial.slot ≡ slot
-        → (IsTrue trial.refused → puts.words_of plan ≡ 0)
+    ensures acts { (attempt : Attempt) → attempt.slot ≡ slot
+        → (IsTrue attempt.refused → puts.words_of plan ≡ 0)
         → ((store : Store) → IsShown
-        (lent (M.heap memory.old) (M.grants memory.old) context.old shared.old) store
-        → IsWithin (birth_at (M.heap memory.old)) shared.old.names store entry.key
-        × IsWithin (birth_at (M.heap memory.old)) shared.old.names store entry.value)
-        → Acts (putting_asks (birth_at (M.heap memory.old)) entry.address entry.key)
-        (putting (birth_at (M.heap memory.old)) entry.address entry.key entry.value entry.operands)
-        trial result
-        (lent (M.heap memory.old) (M.grants memory.old) context.old shared.old)
-        (lent (M.heap memory.new) (M.grants memory.new) context.new shared.new) }
+        (lent_of M.heap M.grants context.old runtime.old) store
+        → IsWithin (birth_at (M.heap runtime.old.memory)) runtime.old.shared.names store entry.key
+        × IsWithin (birth_at (M.heap runtime.old.memory)) runtime.old.shared.names store
+        entry.value)
+        → Acts (putting_asks (birth_at (M.heap runtime.old.memory)) entry.address entry.key)
+        (putting (birth_at (M.heap runtime.old.memory)) entry.address entry.key entry.value
+        entry.operands)
+        attempt result
+        (lent_of M.heap M.grants context.old runtime.old)
+        (lent_of M.heap M.grants context.new runtime.new) }
     ensures unmade { IfErr result (λ break. (reason : NotMade) × (break ≡ Break.NotMade reason)) }
     ensures frames { context.new.frames ≡ context.old.frames }
 {
-    match asked(memory, slot, plan.records(), plan.words()) {
+    match asked(&mut runtime.memory, slot, plan.records(), plan.words()) {
         Ok(()) => {
+            let memory = &mut runtime.memory;
             put(memory, slot, entry.address, plan, entry.key, entry.value);
             context.operands.discard(entry.operands);
             Ok(())
@@ -114,12 +115,12 @@ fn put_planned<M: Memory>(
 
 /// Whether a step is refused the room of a new body.
 #[inline]
-fn is_refused(trial: Trial, plan: PutPlan) -> bool
+fn is_refused(attempt: Attempt, plan: PutPlan) -> bool
     requires limit { (capacity : ℕ) → plan ≡ PutPlan.Grow capacity → capacity ≤ capacity_limit }
-    ensures yes { IsTrue result → (trial.refused ≡ true) × (0 < puts.words_of plan) }
-    ensures no { result ≡ false → IsTrue trial.refused → puts.words_of plan ≡ 0 }
+    ensures yes { IsTrue result → (attempt.refused ≡ true) × (0 < puts.words_of plan) }
+    ensures no { result ≡ false → IsTrue attempt.refused → puts.words_of plan ≡ 0 }
 {
-    trial.refused && plan.words() > 0
+    attempt.refused && plan.words() > 0
 }
 
 /// Puts a pair. Raises `limitcheck` where the pairs would be too many, and `VMerror` in a refused
@@ -127,37 +128,37 @@ fn is_refused(trial: Trial, plan: PutPlan) -> bool
 #[inline(always)]
 fn put_met<M: Memory>(
     context: &mut Context,
-    shared: &mut Shared,
-    memory: &mut M,
-    trial: Trial,
+    runtime: &mut Runtime<M>,
+    attempt: Attempt,
     entry: Entry,
 ) -> Result<(), Break>
-    requires good { IsGood
-        (lent (M.heap memory.old) (M.grants memory.old) context.old shared.old) }
-    requires known { StandsAs (M.heap memory.old) Kind.Dictionary entry.address 4 }
-    requires key { IsValue (M.heap memory.old) entry.key }
-    requires value { IsValue (M.heap memory.old) entry.value }
+    requires good { IsGood (lent_of M.heap M.grants context.old runtime.old) }
+    requires known { StandsAs (M.heap runtime.old.memory) Kind.Dictionary entry.address 4 }
+    requires key { IsValue (M.heap runtime.old.memory) entry.key }
+    requires value { IsValue (M.heap runtime.old.memory) entry.value }
     requires operands { entry.operands ≤ length context.old.operands }
     ensures acts { ((store : Store) → IsShown
-        (lent (M.heap memory.old) (M.grants memory.old) context.old shared.old) store
-        → IsWithin (birth_at (M.heap memory.old)) shared.old.names store entry.key
-        × IsWithin (birth_at (M.heap memory.old)) shared.old.names store entry.value)
-        → Acts (putting_asks (birth_at (M.heap memory.old)) entry.address entry.key)
-        (putting (birth_at (M.heap memory.old)) entry.address entry.key entry.value entry.operands)
-        trial result
-        (lent (M.heap memory.old) (M.grants memory.old) context.old shared.old)
-        (lent (M.heap memory.new) (M.grants memory.new) context.new shared.new) }
+        (lent_of M.heap M.grants context.old runtime.old) store
+        → IsWithin (birth_at (M.heap runtime.old.memory)) runtime.old.shared.names store entry.key
+        × IsWithin (birth_at (M.heap runtime.old.memory)) runtime.old.shared.names store
+        entry.value)
+        → Acts (putting_asks (birth_at (M.heap runtime.old.memory)) entry.address entry.key)
+        (putting (birth_at (M.heap runtime.old.memory)) entry.address entry.key entry.value
+        entry.operands)
+        attempt result
+        (lent_of M.heap M.grants context.old runtime.old)
+        (lent_of M.heap M.grants context.new runtime.new) }
     ensures frames { context.new.frames ≡ context.old.frames }
 {
-    let slot = trial.slot;
-    let plan = plan_put(memory, entry.address, entry.key);
+    let slot = attempt.slot;
+    let plan = plan_put(&mut runtime.memory, entry.address, entry.key);
     if matches!(plan, PutPlan::Full) {
         return Err(Break::Raises(ErrorName::LimitCheck));
     }
-    if is_refused(trial, plan) {
+    if is_refused(attempt, plan) {
         return Err(Break::Raises(ErrorName::VmError));
     }
-    put_planned(context, shared, memory, slot, plan, entry)
+    put_planned(context, runtime, slot, plan, entry)
 }
 
 /// Raises `VMerror` in a refused step that formed a name, once its note has its records; else the
@@ -189,46 +190,45 @@ pub(crate) fn refuse<M: Memory>(
 #[inline(never)]
 fn put_unmet<M: Memory>(
     context: &mut Context,
-    shared: &mut Shared,
-    memory: &mut M,
-    trial: Trial,
+    runtime: &mut Runtime<M>,
+    attempt: Attempt,
     entry: Entry,
     read: &Key,
 ) -> Result<(), Break>
-    requires good { IsGood
-        (lent (M.heap memory.old) (M.grants memory.old) context.old shared.old) }
-    requires known { StandsAs (M.heap memory.old) Kind.Dictionary entry.address 4 }
-    requires key { IsKeyOf (M.heap memory.old) shared.old.names entry.key read.now }
+    requires good { IsGood (lent_of M.heap M.grants context.old runtime.old) }
+    requires known { StandsAs (M.heap runtime.old.memory) Kind.Dictionary entry.address 4 }
+    requires key { IsKeyOf (M.heap runtime.old.memory) runtime.old.shared.names entry.key read.now }
     requires unmet { word_in read.now ≡ None }
-    requires value { IsValue (M.heap memory.old) entry.value }
+    requires value { IsValue (M.heap runtime.old.memory) entry.value }
     requires operands { entry.operands ≤ length context.old.operands }
     requires inside { (names : List (List ℕ)) (store : Store)
-        → AreWithin (M.heap memory.old) names store context.old.operands
-        → IsWithin (birth_at (M.heap memory.old)) names store entry.key
-        × IsWithin (birth_at (M.heap memory.old)) names store entry.value }
-    ensures acts { Acts (putting_key_asks (birth_at (M.heap memory.old)) entry.address entry.key)
-        (putting_key (birth_at (M.heap memory.old)) entry.address entry.key entry.value
-        entry.operands) trial result
-        (lent (M.heap memory.old) (M.grants memory.old) context.old shared.old)
-        (lent (M.heap memory.new) (M.grants memory.new) context.new shared.new) }
+        → AreWithin (M.heap runtime.old.memory) names store context.old.operands
+        → IsWithin (birth_at (M.heap runtime.old.memory)) names store entry.key
+        × IsWithin (birth_at (M.heap runtime.old.memory)) names store entry.value }
+    ensures acts { Acts (putting_key_asks (birth_at (M.heap runtime.old.memory)) entry.address
+        entry.key)
+        (putting_key (birth_at (M.heap runtime.old.memory)) entry.address entry.key entry.value
+        entry.operands) attempt result
+        (lent_of M.heap M.grants context.old runtime.old)
+        (lent_of M.heap M.grants context.new runtime.new) }
     ensures frames { context.new.frames ≡ context.old.frames }
 {
-    let slot = trial.slot;
-    if length(memory, entry.address) >= CAPACITY_LIMIT {
+    let slot = attempt.slot;
+    if length(&mut runtime.memory, entry.address) >= CAPACITY_LIMIT {
         return Err(Break::Raises(ErrorName::LimitCheck));
     }
-    let count = shared.names.len();
-    form_key(&mut shared.names, read)?;
+    let count = runtime.shared.names.len();
+    form_key(&mut runtime.shared.names, read)?;
     let key = name_word(count);
     let named = Entry { key, ..entry };
-    let plan = plan_put(memory, entry.address, key);
-    if is_refused(trial, plan) {
-        return Err(refuse(&mut shared.names, memory, slot, count));
+    let plan = plan_put(&mut runtime.memory, entry.address, key);
+    if is_refused(attempt, plan) {
+        return Err(refuse(&mut runtime.shared.names, &mut runtime.memory, slot, count));
     }
-    match put_planned(context, shared, memory, slot, plan, named) {
+    match put_planned(context, runtime, slot, plan, named) {
         Ok(()) => Ok(()),
         Err(fault) => {
-            shared.names.truncate(count);
+            runtime.shared.names.truncate(count);
             Err(fault)
         }
     }
@@ -242,35 +242,35 @@ fn put_unmet<M: Memory>(
 #[inline(always)]
 pub(crate) fn put_key<M: Memory>(
     context: &mut Context,
-    shared: &mut Shared,
-    memory: &mut M,
-    trial: Trial,
+    runtime: &mut Runtime<M>,
+    attempt: Attempt,
     entry: Entry,
     read: &Key,
 ) -> Result<(), Break>
-    requires good { IsGood
-        (lent (M.heap memory.old) (M.grants memory.old) context.old shared.old) }
-    requires known { StandsAs (M.heap memory.old) Kind.Dictionary entry.address 4 }
-    requires key { IsKeyOf (M.heap memory.old) shared.old.names entry.key read.now }
-    requires value { IsValue (M.heap memory.old) entry.value }
+    requires good { IsGood (lent_of M.heap M.grants context.old runtime.old) }
+    requires known { StandsAs (M.heap runtime.old.memory) Kind.Dictionary entry.address 4 }
+    requires key { IsKeyOf (M.heap runtime.old.memory) runtime.old.shared.names entry.key read.now }
+    requires value { IsValue (M.heap runtime.old.memory) entry.value }
     requires operands { entry.operands ≤ length context.old.operands }
     requires inside { (names : List (List ℕ)) (store : Store)
-        → AreWithin (M.heap memory.old) names store context.old.operands
-        → IsWithin (birth_at (M.heap memory.old)) names store entry.key
-        × IsWithin (birth_at (M.heap memory.old)) names store entry.value }
-    ensures acts { Acts (putting_key_asks (birth_at (M.heap memory.old)) entry.address entry.key)
-        (putting_where_writable (birth_at (M.heap memory.old)) entry.address entry.key entry.value
-        entry.operands) trial result
-        (lent (M.heap memory.old) (M.grants memory.old) context.old shared.old)
-        (lent (M.heap memory.new) (M.grants memory.new) context.new shared.new) }
+        → AreWithin (M.heap runtime.old.memory) names store context.old.operands
+        → IsWithin (birth_at (M.heap runtime.old.memory)) names store entry.key
+        × IsWithin (birth_at (M.heap runtime.old.memory)) names store entry.value }
+    ensures acts { Acts (putting_key_asks (birth_at (M.heap runtime.old.memory)) entry.address
+        entry.key)
+        (putting_where_writable (birth_at (M.heap runtime.old.memory)) entry.address entry.key
+        entry.value
+        entry.operands) attempt result
+        (lent_of M.heap M.grants context.old runtime.old)
+        (lent_of M.heap M.grants context.new runtime.new) }
     ensures frames { context.new.frames ≡ context.old.frames }
 {
-    if !is_writable(access(memory, entry.address)) {
+    if !is_writable(access(&mut runtime.memory, entry.address)) {
         return Err(Break::Raises(ErrorName::InvalidAccess));
     }
     match read.word() {
-        Some(key) => put_met(context, shared, memory, trial, Entry { key, ..entry }),
-        None => put_unmet(context, shared, memory, trial, entry, read),
+        Some(key) => put_met(context, runtime, attempt, Entry { key, ..entry }),
+        None => put_unmet(context, runtime, attempt, entry, read),
     }
 }
 
@@ -281,30 +281,31 @@ pub(crate) fn put_key<M: Memory>(
 #[inline(always)]
 fn put_word<M: Memory>(
     context: &mut Context,
-    shared: &mut Shared,
-    memory: &mut M,
-    trial: Trial,
+    runtime: &mut Runtime<M>,
+    attempt: Attempt,
     entry: Entry,
 ) -> Result<(), Break>
-    requires good { IsGood
-        (lent (M.heap memory.old) (M.grants memory.old) context.old shared.old) }
-    requires known { StandsAs (M.heap memory.old) Kind.Dictionary entry.address 4 }
-    requires key { IsKeyOf (M.heap memory.old) shared.old.names entry.key (Key.Met entry.key) }
-    requires value { IsValue (M.heap memory.old) entry.value }
+    requires good { IsGood (lent_of M.heap M.grants context.old runtime.old) }
+    requires known { StandsAs (M.heap runtime.old.memory) Kind.Dictionary entry.address 4 }
+    requires key { IsKeyOf (M.heap runtime.old.memory) runtime.old.shared.names entry.key
+        (Key.Met entry.key) }
+    requires value { IsValue (M.heap runtime.old.memory) entry.value }
     requires operands { entry.operands ≤ length context.old.operands }
     requires inside { (names : List (List ℕ)) (store : Store)
-        → AreWithin (M.heap memory.old) names store context.old.operands
-        → IsWithin (birth_at (M.heap memory.old)) names store entry.key
-        × IsWithin (birth_at (M.heap memory.old)) names store entry.value }
-    ensures acts { Acts (putting_key_asks (birth_at (M.heap memory.old)) entry.address entry.key)
-        (putting_where_writable (birth_at (M.heap memory.old)) entry.address entry.key entry.value
-        entry.operands) trial result
-        (lent (M.heap memory.old) (M.grants memory.old) context.old shared.old)
-        (lent (M.heap memory.new) (M.grants memory.new) context.new shared.new) }
+        → AreWithin (M.heap runtime.old.memory) names store context.old.operands
+        → IsWithin (birth_at (M.heap runtime.old.memory)) names store entry.key
+        × IsWithin (birth_at (M.heap runtime.old.memory)) names store entry.value }
+    ensures acts { Acts (putting_key_asks (birth_at (M.heap runtime.old.memory)) entry.address
+        entry.key)
+        (putting_where_writable (birth_at (M.heap runtime.old.memory)) entry.address entry.key
+        entry.value
+        entry.operands) attempt result
+        (lent_of M.heap M.grants context.old runtime.old)
+        (lent_of M.heap M.grants context.new runtime.new) }
     ensures frames { context.new.frames ≡ context.old.frames }
 {
-    if is_writable(access(memory, entry.address)) {
-        put_met(context, shared, memory, trial, entry)
+    if is_writable(access(&mut runtime.memory, entry.address)) {
+        put_met(context, runtime, attempt, entry)
     } else {
         Err(Break::Raises(ErrorName::InvalidAccess))
     }
@@ -316,34 +317,34 @@ fn put_word<M: Memory>(
 #[inline(always)]
 pub(crate) fn put_entry<M: Memory>(
     context: &mut Context,
-    shared: &mut Shared,
-    memory: &mut M,
-    trial: Trial,
+    runtime: &mut Runtime<M>,
+    attempt: Attempt,
     entry: Entry,
 ) -> Result<(), Break>
-    requires good { IsGood
-        (lent (M.heap memory.old) (M.grants memory.old) context.old shared.old) }
-    requires known { StandsAs (M.heap memory.old) Kind.Dictionary entry.address 4 }
-    requires key { IsValue (M.heap memory.old) entry.key }
-    requires value { IsValue (M.heap memory.old) entry.value }
+    requires good { IsGood (lent_of M.heap M.grants context.old runtime.old) }
+    requires known { StandsAs (M.heap runtime.old.memory) Kind.Dictionary entry.address 4 }
+    requires key { IsValue (M.heap runtime.old.memory) entry.key }
+    requires value { IsValue (M.heap runtime.old.memory) entry.value }
     requires operands { entry.operands ≤ length context.old.operands }
     requires inside { (names : List (List ℕ)) (store : Store)
-        → AreWithin (M.heap memory.old) names store context.old.operands
-        → IsWithin (birth_at (M.heap memory.old)) names store entry.key
-        × IsWithin (birth_at (M.heap memory.old)) names store entry.value }
-    ensures acts { Acts (putting_key_asks (birth_at (M.heap memory.old)) entry.address entry.key)
-        (putting_where_writable (birth_at (M.heap memory.old)) entry.address entry.key entry.value
-        entry.operands) trial result
-        (lent (M.heap memory.old) (M.grants memory.old) context.old shared.old)
-        (lent (M.heap memory.new) (M.grants memory.new) context.new shared.new) }
+        → AreWithin (M.heap runtime.old.memory) names store context.old.operands
+        → IsWithin (birth_at (M.heap runtime.old.memory)) names store entry.key
+        × IsWithin (birth_at (M.heap runtime.old.memory)) names store entry.value }
+    ensures acts { Acts (putting_key_asks (birth_at (M.heap runtime.old.memory)) entry.address
+        entry.key)
+        (putting_where_writable (birth_at (M.heap runtime.old.memory)) entry.address entry.key
+        entry.value
+        entry.operands) attempt result
+        (lent_of M.heap M.grants context.old runtime.old)
+        (lent_of M.heap M.grants context.new runtime.new) }
     ensures frames { context.new.frames ≡ context.old.frames }
 {
-    let _count = shared.names.len();
+    let _count = runtime.shared.names.len();
     match string_of(entry.key) {
-        None => put_word(context, shared, memory, trial, entry),
+        None => put_word(context, runtime, attempt, entry),
         Some(_) => {
-            let read = read_key(memory, &shared.names, entry.key);
-            put_key(context, shared, memory, trial, entry, &read)
+            let read = read_key(&mut runtime.memory, &runtime.shared.names, entry.key);
+            put_key(context, runtime, attempt, entry, &read)
         }
     }
 }

@@ -4,7 +4,7 @@ ghost use Rattle.std.specs.Prelude.{◌≡◌};
 ghost use Rattle.ps_language.specs.Rows.{reading_row};
 ghost use Rattle.ps_language.specs.RowsDictionaries as rows;
 ghost use Rattle.ps_ops_state.specs.Acts.{Acts, nothing_asked};
-ghost use Rattle.ps_ops_state.specs.Lent.{lent, IsGood};
+ghost use Rattle.ps_ops_state.specs.Lent.{lent_of, IsGood};
 
 use ps_dict::dictionaries::{access, capacity};
 use ps_language::errors::ErrorName;
@@ -12,21 +12,16 @@ use ps_mem::Memory;
 use ps_ops_operands::access::is_readable;
 use ps_ops_operands::plain;
 use ps_ops_state::breaks::Break;
-use ps_ops_state::lent::{Context, Shared, Trial};
+use ps_ops_state::lent::{Attempt, Context, Runtime};
 
 /// `D maxlength n`: how many pairs there is room for. Raises `stackunderflow`, `typecheck` and
 /// `invalidaccess`.
-pub fn maxlength<M: Memory>(
-    context: &mut Context,
-    shared: &mut Shared,
-    memory: &mut M,
-) -> Result<(), Break>
-    requires good { IsGood
-        (lent (M.heap memory.old) (M.grants memory.old) context.old shared.old) }
-    ensures acts { (trial : Trial)
-        → Acts nothing_asked (reading_row rows.maxlength_row) trial result
-        (lent (M.heap memory.old) (M.grants memory.old) context.old shared.old)
-        (lent (M.heap memory.new) (M.grants memory.new) context.new shared.new) }
+pub fn maxlength<M: Memory>(context: &mut Context, runtime: &mut Runtime<M>) -> Result<(), Break>
+    requires good { IsGood (lent_of M.heap M.grants context.old runtime.old) }
+    ensures acts { (attempt : Attempt)
+        → Acts nothing_asked (reading_row rows.maxlength_row) attempt result
+        (lent_of M.heap M.grants context.old runtime.old)
+        (lent_of M.heap M.grants context.new runtime.new) }
 {
     let Some(word) = context.operands.top() else {
         return Err(Break::Raises(ErrorName::StackUnderflow));
@@ -34,10 +29,10 @@ pub fn maxlength<M: Memory>(
     let Some(address) = word.as_dictionary() else {
         return Err(Break::Raises(ErrorName::TypeCheck));
     };
-    if !is_readable(access(memory, address)) {
+    if !is_readable(access(&mut runtime.memory, address)) {
         return Err(Break::Raises(ErrorName::InvalidAccess));
     }
-    let number = capacity(memory, address) as i32;
+    let number = capacity(&mut runtime.memory, address) as i32;
     context.operands.replace(1, plain::integer(number));
     Ok(())
 }

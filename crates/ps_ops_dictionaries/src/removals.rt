@@ -8,7 +8,7 @@ ghost use Rattle.ps_mem.specs.Heap.{birth_at};
 ghost use Rattle.ps_mem.specs.References.{StandsAs};
 ghost use Rattle.ps_mem.specs.Shows.{IsValue, IsWithin};
 ghost use Rattle.ps_ops_state.specs.Acts.{Acts};
-ghost use Rattle.ps_ops_state.specs.Lent.{lent, IsGood, IsShown};
+ghost use Rattle.ps_ops_state.specs.Lent.{lent_of, IsGood, IsShown};
 ghost use Rattle.ps_ops_dictionaries.specs.Asks.{undef_asks};
 ghost use Rattle.ps_ops_dictionaries.specs.Removals.{removing, removing_asks};
 
@@ -21,7 +21,7 @@ use ps_mem::{Memory, Slot};
 use ps_ops_operands::access::is_writable;
 use ps_ops_operands::failure::NotMade;
 use ps_ops_state::breaks::Break;
-use ps_ops_state::lent::{Context, Shared, Trial};
+use ps_ops_state::lent::{Attempt, Context, Runtime};
 use ps_step_lookup::keys::{form_key, is_null, is_readable_key, read_key};
 use ps_word::words::Word;
 
@@ -29,35 +29,34 @@ use ps_word::words::Word;
 /// made for want of records, or of room for the index.
 fn remove_key<M: Memory>(
     context: &mut Context,
-    shared: &mut Shared,
-    memory: &mut M,
+    runtime: &mut Runtime<M>,
     slot: Slot,
     address: u32,
     key: Word,
 ) -> Result<(), Break>
-    requires good { IsGood
-        (lent (M.heap memory.old) (M.grants memory.old) context.old shared.old) }
-    requires known { StandsAs (M.heap memory.old) Kind.Dictionary address 4 }
-    requires key { IsValue (M.heap memory.old) key }
+    requires good { IsGood (lent_of M.heap M.grants context.old runtime.old) }
+    requires known { StandsAs (M.heap runtime.old.memory) Kind.Dictionary address 4 }
+    requires key { IsValue (M.heap runtime.old.memory) key }
     requires operands { 2 ≤ length context.old.operands }
-    ensures acts { (trial : Trial) → trial.slot ≡ slot
+    ensures acts { (attempt : Attempt) → attempt.slot ≡ slot
         → ((store : Store) → IsShown
-        (lent (M.heap memory.old) (M.grants memory.old) context.old shared.old) store
-        → IsWithin (birth_at (M.heap memory.old)) shared.old.names store key)
-        → Acts (removing_asks (birth_at (M.heap memory.old)) address key)
-        (removing (birth_at (M.heap memory.old)) address key) trial result
-        (lent (M.heap memory.old) (M.grants memory.old) context.old shared.old)
-        (lent (M.heap memory.new) (M.grants memory.new) context.new shared.new) }
+        (lent_of M.heap M.grants context.old runtime.old) store
+        → IsWithin (birth_at (M.heap runtime.old.memory)) runtime.old.shared.names store key)
+        → Acts (removing_asks (birth_at (M.heap runtime.old.memory)) address key)
+        (removing (birth_at (M.heap runtime.old.memory)) address key) attempt result
+        (lent_of M.heap M.grants context.old runtime.old)
+        (lent_of M.heap M.grants context.new runtime.new) }
 {
-    let Some(place) = position(memory, address, key) else {
+    let Some(place) = position(&mut runtime.memory, address, key) else {
         context.operands.discard(2);
         return Ok(());
     };
-    let records = removal_records(memory, address, place);
-    if let Err(reason) = asked(memory, slot, records, 0) {
+    let records = removal_records(&mut runtime.memory, address, place);
+    if let Err(reason) = asked(&mut runtime.memory, slot, records, 0) {
         return Err(Break::NotMade(reason));
     }
-    match remove(memory, slot, address, place, &mut shared.scratch.words) {
+    let words = &mut runtime.shared.scratch.words;
+    match remove(&mut runtime.memory, slot, address, place, words) {
         Ok(()) => {
             context.operands.discard(2);
             Ok(())
@@ -73,15 +72,13 @@ fn remove_key<M: Memory>(
 /// want of memory for a name, of records, or of room for the index.
 pub fn undef<M: Memory>(
     context: &mut Context,
-    shared: &mut Shared,
-    memory: &mut M,
-    trial: Trial,
+    runtime: &mut Runtime<M>,
+    attempt: Attempt,
 ) -> Result<(), Break>
-    requires good { IsGood
-        (lent (M.heap memory.old) (M.grants memory.old) context.old shared.old) }
-    ensures acts { Acts undef_asks (naming_row rows.undef_row) trial result
-        (lent (M.heap memory.old) (M.grants memory.old) context.old shared.old)
-        (lent (M.heap memory.new) (M.grants memory.new) context.new shared.new) }
+    requires good { IsGood (lent_of M.heap M.grants context.old runtime.old) }
+    ensures acts { Acts undef_asks (naming_row rows.undef_row) attempt result
+        (lent_of M.heap M.grants context.old runtime.old)
+        (lent_of M.heap M.grants context.new runtime.new) }
 {
     let Some((key, dictionary)) = context.operands.top_two() else {
         return Err(Break::Raises(ErrorName::StackUnderflow));
@@ -95,14 +92,14 @@ pub fn undef<M: Memory>(
     if !is_readable_key(key) {
         return Err(Break::Raises(ErrorName::InvalidAccess));
     }
-    if !is_writable(access(memory, address)) {
+    if !is_writable(access(&mut runtime.memory, address)) {
         return Err(Break::Raises(ErrorName::InvalidAccess));
     }
-    let read = read_key(memory, &shared.names, key);
+    let read = read_key(&mut runtime.memory, &runtime.shared.names, key);
     match read.word() {
-        Some(word) => remove_key(context, shared, memory, trial.slot, address, word),
+        Some(word) => remove_key(context, runtime, attempt.slot, address, word),
         None => {
-            form_key(&mut shared.names, &read)?;
+            form_key(&mut runtime.shared.names, &read)?;
             context.operands.discard(2);
             Ok(())
         }

@@ -4,7 +4,7 @@ ghost use Rattle.std.specs.Prelude.{◌≡◌, ◌<◌, ◌∷◌, length};
 ghost use Rattle.ps_language.specs.Rows.{stacking_row};
 ghost use Rattle.ps_language.specs.RowsDictionaries as rows;
 ghost use Rattle.ps_ops_state.specs.Acts.{Acts, nothing_asked};
-ghost use Rattle.ps_ops_state.specs.Lent.{lent, IsGood};
+ghost use Rattle.ps_ops_state.specs.Lent.{lent_of, IsGood};
 
 use ps_dict::dictionaries::access;
 use ps_language::errors::ErrorName;
@@ -13,7 +13,7 @@ use ps_ops_operands::access::is_readable;
 use ps_ops_operands::plain::integer;
 use ps_ops_operands::stack_operators::push;
 use ps_ops_state::breaks::{Break, made};
-use ps_ops_state::lent::{Context, Dictionaries, Shared, Trial};
+use ps_ops_state::lent::{Attempt, Context, Dictionaries, Runtime};
 use ps_word::words::Word;
 
 /// Pushes a dictionary for which there is room.
@@ -25,16 +25,12 @@ fn push_within(dictionaries: &mut Dictionaries, word: Word)
 }
 
 /// `D begin`. Raises `stackunderflow`, `typecheck`, `invalidaccess` and `dictstackoverflow`.
-pub fn begin<M: Memory>(
-    context: &mut Context,
-    shared: &mut Shared,
-    memory: &mut M,
-) -> Result<(), Break>
-    requires good { IsGood
-        (lent (M.heap memory.old) (M.grants memory.old) context.old shared.old) }
-    ensures acts { (trial : Trial) → Acts nothing_asked (stacking_row rows.begin_row) trial result
-        (lent (M.heap memory.old) (M.grants memory.old) context.old shared.old)
-        (lent (M.heap memory.new) (M.grants memory.new) context.new shared.new) }
+pub fn begin<M: Memory>(context: &mut Context, runtime: &mut Runtime<M>) -> Result<(), Break>
+    requires good { IsGood (lent_of M.heap M.grants context.old runtime.old) }
+    ensures acts { (attempt : Attempt) → Acts nothing_asked (stacking_row rows.begin_row) attempt
+        result
+        (lent_of M.heap M.grants context.old runtime.old)
+        (lent_of M.heap M.grants context.new runtime.new) }
     ensures frames { context.new.frames ≡ context.old.frames }
 {
     let Some(word) = context.operands.top() else {
@@ -43,7 +39,7 @@ pub fn begin<M: Memory>(
     let Some(address) = word.as_dictionary() else {
         return Err(Break::Raises(ErrorName::TypeCheck));
     };
-    if !is_readable(access(memory, address)) {
+    if !is_readable(access(&mut runtime.memory, address)) {
         return Err(Break::Raises(ErrorName::InvalidAccess));
     }
     if context.dictionaries.is_full() {
@@ -55,16 +51,12 @@ pub fn begin<M: Memory>(
 }
 
 /// `end`. Raises `dictstackunderflow` where no more than the two lowest stand.
-pub fn end<M: Memory>(
-    context: &mut Context,
-    shared: &mut Shared,
-    memory: &mut M,
-) -> Result<(), Break>
-    requires good { IsGood
-        (lent (M.heap memory.old) (M.grants memory.old) context.old shared.old) }
-    ensures acts { (trial : Trial) → Acts nothing_asked (stacking_row rows.end_row) trial result
-        (lent (M.heap memory.old) (M.grants memory.old) context.old shared.old)
-        (lent (M.heap memory.new) (M.grants memory.new) context.new shared.new) }
+pub fn end<M: Memory>(context: &mut Context, runtime: &mut Runtime<M>) -> Result<(), Break>
+    requires good { IsGood (lent_of M.heap M.grants context.old runtime.old) }
+    ensures acts { (attempt : Attempt) → Acts nothing_asked (stacking_row rows.end_row) attempt
+        result
+        (lent_of M.heap M.grants context.old runtime.old)
+        (lent_of M.heap M.grants context.new runtime.new) }
     ensures frames { context.new.frames ≡ context.old.frames }
 {
     if context.dictionaries.len() <= 2 {
@@ -77,14 +69,13 @@ pub fn end<M: Memory>(
 /// `cleardictstack`: all but the two lowest are taken off.
 pub fn cleardictstack<M: Memory>(
     context: &mut Context,
-    shared: &mut Shared,
-    memory: &mut M,
+    runtime: &mut Runtime<M>,
 ) -> Result<(), Break>
-    requires good { IsGood
-        (lent (M.heap memory.old) (M.grants memory.old) context.old shared.old) }
-    ensures acts { (trial : Trial) → Acts nothing_asked (stacking_row rows.cleardictstack_row) trial
-        result (lent (M.heap memory.old) (M.grants memory.old) context.old shared.old)
-        (lent (M.heap memory.new) (M.grants memory.new) context.new shared.new) }
+    requires good { IsGood (lent_of M.heap M.grants context.old runtime.old) }
+    ensures acts { (attempt : Attempt) → Acts nothing_asked (stacking_row rows.cleardictstack_row)
+        attempt
+        result (lent_of M.heap M.grants context.old runtime.old)
+        (lent_of M.heap M.grants context.new runtime.new) }
 {
     let above = context.dictionaries.len().saturating_sub(2);
     context.dictionaries.discard(above);
@@ -92,16 +83,12 @@ pub fn cleardictstack<M: Memory>(
 }
 
 /// `currentdict D`: the topmost dictionary. Raises `stackoverflow`.
-pub fn currentdict<M: Memory>(
-    context: &mut Context,
-    shared: &mut Shared,
-    memory: &mut M,
-) -> Result<(), Break>
-    requires good { IsGood
-        (lent (M.heap memory.old) (M.grants memory.old) context.old shared.old) }
-    ensures acts { (trial : Trial) → Acts nothing_asked (stacking_row rows.currentdict_row) trial
-        result (lent (M.heap memory.old) (M.grants memory.old) context.old shared.old)
-        (lent (M.heap memory.new) (M.grants memory.new) context.new shared.new) }
+pub fn currentdict<M: Memory>(context: &mut Context, runtime: &mut Runtime<M>) -> Result<(), Break>
+    requires good { IsGood (lent_of M.heap M.grants context.old runtime.old) }
+    ensures acts { (attempt : Attempt) → Acts nothing_asked (stacking_row rows.currentdict_row)
+        attempt
+        result (lent_of M.heap M.grants context.old runtime.old)
+        (lent_of M.heap M.grants context.new runtime.new) }
 {
     let Some(word) = context.dictionaries.top() else {
         return Err(Break::Raises(ErrorName::DictStackUnderflow));
@@ -112,14 +99,13 @@ pub fn currentdict<M: Memory>(
 /// `countdictstack n`: how many dictionaries stand on the stack. Raises `stackoverflow`.
 pub fn countdictstack<M: Memory>(
     context: &mut Context,
-    shared: &mut Shared,
-    memory: &mut M,
+    runtime: &mut Runtime<M>,
 ) -> Result<(), Break>
-    requires good { IsGood
-        (lent (M.heap memory.old) (M.grants memory.old) context.old shared.old) }
-    ensures acts { (trial : Trial) → Acts nothing_asked (stacking_row rows.countdictstack_row) trial
-        result (lent (M.heap memory.old) (M.grants memory.old) context.old shared.old)
-        (lent (M.heap memory.new) (M.grants memory.new) context.new shared.new) }
+    requires good { IsGood (lent_of M.heap M.grants context.old runtime.old) }
+    ensures acts { (attempt : Attempt) → Acts nothing_asked (stacking_row rows.countdictstack_row)
+        attempt
+        result (lent_of M.heap M.grants context.old runtime.old)
+        (lent_of M.heap M.grants context.new runtime.new) }
 {
     let count = context.dictionaries.len() as i32;
     made(push(&mut context.operands, integer(count)))

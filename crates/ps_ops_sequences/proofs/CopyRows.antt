@@ -25,11 +25,11 @@ use Rattle.ps_ops_operands.proofs.Operands.{first_split, first_two_split}
 use Rattle.ps_ops_operands.proofs.Held.{first_of_two_held, second_held}
 use Rattle.ps_ops_operands.proofs.Reading.{as_integer-value}
 use Rattle.ps_ops_types.proofs.Reduced.{sequence_of}
-use Rattle.ps_ops_state.specs.declared.lent.Trial.{Trial}
+use Rattle.ps_ops_state.specs.declared.lent.Attempt.{Attempt}
 use Rattle.ps_ops_state.specs.Lent.{Lent, scene_of, IsShown, IsGood}
 use Rattle.ps_ops_state.specs.Acts.{Asked, no_rooms, nothing_asked, effect_in}
 use Rattle.ps_ops_state.proofs.Alike.{unchanged_effect}
-use Rattle.ps_ops_sequences.specs.declared.pairs.Pair.{Pair}
+use Rattle.ps_ops_sequences.specs.declared.pairs.SequencePair.{SequencePair}
 use Rattle.ps_ops_sequences.specs.Kinds.{is_dictionary_at}
 use Rattle.ps_ops_sequences.specs.Pairs.{read_as}
 use Rattle.ps_ops_sequences.specs.Asks.{asked_in, copy_asked, copy_asks}
@@ -212,7 +212,7 @@ module _ (l : Lent) (target : Word) (top : Some target ≡ first_of l.operands) 
             → IsShown l store → effect_in (changing_row copy_row) l store ≡ raises TypeCheck
         copy_unlike none store shown = rw (copies_by store, none) refl
 
-        module _ (pair : Pair) (pair_is : as_pair (value source) (value target)
+        module _ (pair : SequencePair) (pair_is : as_pair (value source) (value target)
             ≡ Some (part_value pair.from, part_value pair.to)) where
           pub copy_hidden : (is_readable pair.from.access && is_writable pair.to.access) ≡ false
               → (store : Store) → IsShown l store
@@ -224,15 +224,15 @@ module _ (l : Lent) (target : Word) (top : Some target ≡ first_of l.operands) 
                 → IsShown l store → effect_in (changing_row copy_row) l store ≡ raises RangeCheck
             copy_outside long store shown = rw (copies_by store, pair_is, may, long) refl
 
-            pub copy_copies : (good : IsGood l) → (trial : Trial)
+            pub copy_copies : (good : IsGood l) → (attempt : Attempt)
                 → nat_le pair.from.length pair.to.length ≡ true
                 → read_as pair.of (value source) ≡ Some (part_value pair.from)
                 → read_as pair.of (value target) ≡ Some (part_value pair.to)
                 → (store : Store) → IsShown l store
-                → Copies (changing_row copy_row) copy_asks trial l source target
+                → Copies (changing_row copy_row) copy_asks attempt l source target
                 (with_part (value target) (part_at (part_value pair.to) 0 pair.from.length)
                 ∷ values_in l.heap l.names (drop 2 l.operands)) pair 0 store
-            copy_copies good trial fits from_is to_is store shown =
+            copy_copies good attempt fits from_is to_is store shown =
                 let inside = first_of_two_held (IsWithin (birth_at l.heap) l.names store)
                 l.operands shown.operands target source tops in
                 record {

@@ -19,7 +19,7 @@ use Rattle.ps_mem.specs.References.{words_for}
 use Rattle.ps_ops_operands.specs.declared.failure.NotMade.{NotMade as Reason}
 use Rattle.ps_ops_operands.specs.Changes.{values_in, KeepsLogsWithin, most_records, records_asked, no_words}
 use Rattle.ps_ops_state.specs.declared.breaks.Break.TheVariants.{NotMade}
-use Rattle.ps_ops_state.specs.declared.lent.Trial.{Trial}
+use Rattle.ps_ops_state.specs.declared.lent.Attempt.{Attempt}
 use Rattle.ps_ops_state.specs.declared.lent.Scratch.{Scratch}
 use Rattle.ps_ops_state.specs.Lent.{Lent, rooms_of, IsEmpty, scene_of, IsShown, IsGood}
 use Rattle.ps_ops_state.specs.Acts.{Asked, Needs, IsShort, IsReason, IsAtLeast, Lasts, effect_in, Acts}
@@ -30,7 +30,7 @@ use Rattle.ps_ops_state.proofs.Changing.{elements_last, array_bytes}
 use Rattle.ps_ops_state.proofs.Direct.{store_acts}
 use Rattle.ps_ops_sequences.specs.declared.pairs.Sequence.{Sequence}
 use Rattle.ps_ops_sequences.specs.declared.pairs.Sequence.TheVariants.{Arrays, Strings}
-use Rattle.ps_ops_sequences.specs.declared.pairs.Pair.{Pair}
+use Rattle.ps_ops_sequences.specs.declared.pairs.SequencePair.{SequencePair}
 use Rattle.ps_ops_sequences.specs.Pairs.{read_as, written, pair_written}
 use Rattle.ps_ops_sequences.specs.Asks.{asked_for, IsStoreReason}
 use Rattle.ps_ops_sequences.proofs.StringPuts.{bytes_unasked, bytes_last, string_lies}
@@ -89,8 +89,8 @@ module _ (l new : Lent) (slot : ℕ) (needs : Needs) where
 
 -- ---- an operator whose row leaves these values and what was written
 
-module _ (row : Row) (asks : Scene → Asked) (trial : Trial) (l : Lent) (source target : Word)
-    (operands : List Value) (pair : Pair) (place : ℕ) where
+module _ (row : Row) (asks : Scene → Asked) (attempt : Attempt) (l : Lent) (source target : Word)
+    (operands : List Value) (pair : SequencePair) (place : ℕ) where
   abbrev part_value : Part → PartValue
   part_value part = part_of (birth_at l.heap) part
 
@@ -120,14 +120,14 @@ module _ (row : Row) (asks : Scene → Asked) (trial : Trial) (l : Lent) (source
       pub copied_acts : (new : Heap) → Keeps l.heap new → IsSound new → (after : List Word)
           → AreValues l.heap after → operands ≡ values_in l.heap l.names after
           → ((store : Store) → IsShown l store → AreWithin l.heap l.names store after)
-          → KeepsLogsWithin (min 1 pair.from.length) l.grants left trial.slot
+          → KeepsLogsWithin (min 1 pair.from.length) l.grants left attempt.slot
           → ((store : Store) → IsShown l store
           → Shows new l.names (pair_written (birth_at l.heap) store pair place))
-          → Acts asks row trial (Ok tt) l
+          → Acts asks row attempt (Ok tt) l
           (record l { heap = new; grants = left; operands = after; scratch = scratch })
       copied_acts new keeps sound after values are within logs shows =
-          store_acts row trial asks l after good values new left scratch keeps sound least empty
-          (logs_more _ most_records l.grants left trial.slot (few pair.from.length) logs)
+          store_acts row attempt asks l after good values new left scratch keeps sound least empty
+          (logs_more _ most_records l.grants left attempt.slot (few pair.from.length) logs)
           λ store shown.
           let c = copies store shown in
           record {
@@ -142,7 +142,7 @@ module _ (row : Row) (asks : Scene → Asked) (trial : Trial) (l : Lent) (source
                 place fits;
             shows = shows store shown;
             within = within store shown;
-            logs = subst (λ (n : ℕ). KeepsLogsWithin n l.grants left trial.slot)
+            logs = subst (λ (n : ℕ). KeepsLogsWithin n l.grants left attempt.slot)
                 (sym (ap (λ (asked : Asked). asked.records) c.asks_is
                 ∙ records_of pair.of pair.from.length)) logs;
           }
@@ -150,12 +150,12 @@ module _ (row : Row) (asks : Scene → Asked) (trial : Trial) (l : Lent) (source
           few : (n : ℕ) → min 1 n ≤ most_records
           few n = grind (arith, nat_tests)
 
-      pub uncopied_acts : (reason : Reason) → KeepsLogsWithin 0 l.grants left trial.slot
-          → IsStoreReason pair.of pair.from.length l.scratch trial.slot l.grants left reason
-          → Acts asks row trial (Err (NotMade reason)) l
+      pub uncopied_acts : (reason : Reason) → KeepsLogsWithin 0 l.grants left attempt.slot
+          → IsStoreReason pair.of pair.from.length l.scratch attempt.slot l.grants left reason
+          → Acts asks row attempt (Err (NotMade reason)) l
           (record l { grants = left; scratch = scratch })
       uncopied_acts reason logs why =
-          wanting_acts row trial asks l good left l.room scratch (omega arith) least empty logs
+          wanting_acts row attempt asks l good left l.room scratch (omega arith) least empty logs
           reason λ store shown.
           let c = copies store shown in
           record {
@@ -165,9 +165,9 @@ module _ (row : Row) (asks : Scene → Asked) (trial : Trial) (l : Lent) (source
             };
             output = [];
             is = c.is;
-            enough = lacks_nothing trial.refused store
+            enough = lacks_nothing attempt.refused store
                 (pair_written (birth_at l.heap) store pair place) (unasked store);
-            why = store_reason l (record l { grants = left; scratch = scratch }) trial.slot _
+            why = store_reason l (record l { grants = left; scratch = scratch }) attempt.slot _
                 pair.of reason pair.from.length
                 (ap (λ (asked : Asked). asked.records) c.asks_is)
                 (ap (λ (asked : Asked). asked.scratch) c.asks_is) why;

@@ -16,7 +16,7 @@ use Rattle.ps_ops_operands.specs.Plain.{IsPlain}
 use Rattle.ps_ops_operands.proofs.Operands.{first_split}
 use Rattle.ps_ops_operands.proofs.Held.{rest_held}
 use Rattle.ps_ops_operands.proofs.Ready.{plain_within}
-use Rattle.ps_ops_state.specs.declared.lent.Trial.{Trial}
+use Rattle.ps_ops_state.specs.declared.lent.Attempt.{Attempt}
 use Rattle.ps_ops_state.specs.Lent.{Lent, IsShown}
 use Rattle.ps_ops_state.specs.Acts.{nothing_asked, effect_in}
 use Rattle.ps_ops_state.proofs.Direct.{LeavesWords}
@@ -43,12 +43,12 @@ module _ (l : Lent) (w : Word) (top : Some w ≡ first_of l.operands) where
           hidden store shown.shows,
         ) refl
 
-    pub length_left : Known (λ store. may_read store value ≡ true) → (trial : Trial) (r : Word)
+    pub length_left : Known (λ store. may_read store value ≡ true) → (attempt : Attempt) (r : Word)
         → IsPlain r
         → ((births : ℕ → ℕ) (names : List (List ℕ)) → value_of births names r ≡ natural n)
         → (store : Store) → IsShown l store
-        → LeavesWords (reading_row length_row) trial nothing_asked l (r ∷ drop 1 l.operands) store
-    length_left readable trial r plain means store shown = record {
+        → LeavesWords (reading_row length_row) attempt nothing_asked l (r ∷ drop 1 l.operands) store
+    length_left readable attempt r plain means store shown = record {
       is = rw (
         first_split l.operands w top,
         measured store shown.shows,

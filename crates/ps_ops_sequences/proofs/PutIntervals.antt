@@ -17,10 +17,10 @@ use Rattle.ps_mem.specs.Shows.{IsValue, IsWithin}
 use Rattle.ps_ops_operands.specs.Changes.{values_in}
 use Rattle.ps_ops_operands.proofs.Operands.{first_three_split}
 use Rattle.ps_ops_operands.proofs.Held.{first_of_three_held, third_held}
-use Rattle.ps_ops_state.specs.declared.lent.Trial.{Trial}
+use Rattle.ps_ops_state.specs.declared.lent.Attempt.{Attempt}
 use Rattle.ps_ops_state.specs.Lent.{Lent, IsShown, IsGood}
 use Rattle.ps_ops_state.specs.Acts.{effect_in}
-use Rattle.ps_ops_sequences.specs.declared.pairs.Pair.{Pair}
+use Rattle.ps_ops_sequences.specs.declared.pairs.SequencePair.{SequencePair}
 use Rattle.ps_ops_sequences.specs.Pairs.{read_as}
 use Rattle.ps_ops_sequences.specs.Asks.{putinterval_asks}
 use Rattle.ps_ops_sequences.proofs.PairRows.{contents_of, asked_of}
@@ -40,7 +40,7 @@ module _ (l : Lent) (source key target : Word)
   put_wrong none store shown =
       rw (first_three_split l.operands source key target tops, number_is, none) refl
 
-  module _ (pair : Pair) (pair_is : as_pair (value source) (value target)
+  module _ (pair : SequencePair) (pair_is : as_pair (value source) (value target)
       ≡ Some (part_value pair.from, part_value pair.to)) where
     pub put_hidden : (is_readable pair.from.access && is_writable pair.to.access) ≡ false
         → (store : Store) → IsShown l store
@@ -60,14 +60,14 @@ module _ (l : Lent) (source key target : Word)
         sym none,
       ) refl
 
-      pub put_copies : (good : IsGood l) → (trial : Trial) (place : ℕ)
+      pub put_copies : (good : IsGood l) → (attempt : Attempt) (place : ℕ)
           → Some place ≡ interval_within number pair.from.length pair.to.length
           → read_as pair.of (value source) ≡ Some (part_value pair.from)
           → read_as pair.of (value target) ≡ Some (part_value pair.to)
           → (store : Store) → IsShown l store
-          → Copies (changing_row putinterval_row) putinterval_asks trial l source target
+          → Copies (changing_row putinterval_row) putinterval_asks attempt l source target
           (values_in l.heap l.names (drop 3 l.operands)) pair place store
-      put_copies good trial place place_is from_is to_is store shown = record {
+      put_copies good attempt place place_is from_is to_is store shown = record {
         is = rw (
           first_three_split l.operands source key target tops,
           number_is,

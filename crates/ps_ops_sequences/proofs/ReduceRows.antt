@@ -34,7 +34,7 @@ use Rattle.ps_ops_operands.proofs.Operands.{first_split}
 use Rattle.ps_ops_operands.proofs.Held.{first_held, rest_held}
 use Rattle.ps_ops_types.proofs.Reduced.{sequence_of, reduced_value, reduced_within}
 use Rattle.ps_ops_state.specs.declared.breaks.Break.TheVariants.{NotMade}
-use Rattle.ps_ops_state.specs.declared.lent.Trial.{Trial}
+use Rattle.ps_ops_state.specs.declared.lent.Attempt.{Attempt}
 use Rattle.ps_ops_state.specs.Lent.{Lent, scene_of, IsShown, IsGood}
 use Rattle.ps_ops_state.specs.Acts.{Asked, no_rooms, Lasts, effect_in, Acts}
 use Rattle.ps_ops_state.proofs.Meeting.{at_least-same, lacks_nothing, logs_more}
@@ -163,12 +163,12 @@ module _ (reduced : Access) (l : Lent) (w : Word) (top : Some w ≡ first_of l.o
       hidden,
     ) refl
 
-    pub reduce_left : reduces_to part.access reduced ≡ true → (trial : Trial) (r : Word)
+    pub reduce_left : reduces_to part.access reduced ≡ true → (attempt : Attempt) (r : Word)
         → value_in r.0 ≡ record (value_in w.0)
         { content = words.with_access (content_in w.0) reduced }
         → (store : Store) → IsShown l store
-        → LeavesWords (changing_row (reduce_row reduced)) trial reduce_asks l (r ∷ rest) store
-    reduce_left may trial r is store shown = record {
+        → LeavesWords (changing_row (reduce_row reduced)) attempt reduce_asks l (r ∷ rest) store
+    reduce_left may attempt r is store shown = record {
       is = rw (
         first_split l.operands w top,
         other_row reduced store value (values_in l.heap l.names rest)
@@ -226,15 +226,15 @@ module _ (reduced : Access) (l : Lent) (w : Word) (top : Some w ≡ first_of l.o
       asks_one store = rw (first_split l.operands w top)
           (dictionary_asks value b (dictionary_is (birth_at l.heap) l.names w a is))
 
-      pub reduced_acts : (trial : Trial) (good : IsGood l) (new : Heap) (left : Grants)
-          → Keeps l.heap new → IsSound new → KeepsLogsWithin 1 l.grants left trial.slot
+      pub reduced_acts : (attempt : Attempt) (good : IsGood l) (new : Heap) (left : Grants)
+          → Keeps l.heap new → IsSound new → KeepsLogsWithin 1 l.grants left attempt.slot
           → ((store : Store) → IsShown l store → Shows new l.names (later store))
-          → Acts reduce_asks (changing_row (reduce_row reduced)) trial (Ok tt) l
+          → Acts reduce_asks (changing_row (reduce_row reduced)) attempt (Ok tt) l
           (record l { heap = new; grants = left })
-      reduced_acts trial good new left keeps now logs shows =
-          store_acts (changing_row (reduce_row reduced)) trial reduce_asks l l.operands good
+      reduced_acts attempt good new left keeps now logs shows =
+          store_acts (changing_row (reduce_row reduced)) attempt reduce_asks l l.operands good
           good.operands new left l.scratch keeps now (at_least-same _) good.empty
-          (logs_more 1 most_records l.grants left trial.slot (omega arith) logs)
+          (logs_more 1 most_records l.grants left attempt.slot (omega arith) logs)
           λ store shown.
           let at = there l.heap a stands sound l.names store shown.shows in
           record {
@@ -245,25 +245,25 @@ module _ (reduced : Access) (l : Lent) (w : Word) (top : Some w ≡ first_of l.o
             shows = shows store shown;
             within = shown.operands;
             logs = subst (λ (asked : Asked). KeepsLogsWithin asked.records l.grants left
-                trial.slot) (sym (asks_one store)) logs;
+                attempt.slot) (sym (asks_one store)) logs;
           }
 
-      pub unreduced_acts : (trial : Trial) (good : IsGood l) (left : Grants)
-          → KeepsLogsWithin 0 l.grants left trial.slot → (reason : Reason)
-          → IsRecordReason reason 1 trial.slot l.grants left
-          → Acts reduce_asks (changing_row (reduce_row reduced)) trial (Err (NotMade reason)) l
+      pub unreduced_acts : (attempt : Attempt) (good : IsGood l) (left : Grants)
+          → KeepsLogsWithin 0 l.grants left attempt.slot → (reason : Reason)
+          → IsRecordReason reason 1 attempt.slot l.grants left
+          → Acts reduce_asks (changing_row (reduce_row reduced)) attempt (Err (NotMade reason)) l
           (record l { grants = left })
-      unreduced_acts trial good left logs reason why =
-          wanting_acts (changing_row (reduce_row reduced)) trial reduce_asks l good left l.room
+      unreduced_acts attempt good left logs reason why =
+          wanting_acts (changing_row (reduce_row reduced)) attempt reduce_asks l good left l.room
           l.scratch (omega arith) (at_least-same _) good.empty logs reason λ store shown.
           let at = there l.heap a stands sound l.names store shown.shows in
           record {
             scene = record (scene_of l store) { store = later store };
             output = [];
             is = reduces store shown;
-            enough = lacks_nothing trial.refused store (later store)
+            enough = lacks_nothing attempt.refused store (later store)
                 (access_unasked store b (dictionary_at store b) reduced at);
-            why = store_reason l (record l { grants = left }) trial.slot _ Arrays reason 1
+            why = store_reason l (record l { grants = left }) attempt.slot _ Arrays reason 1
                 (ap (λ (asked : Asked). asked.records) (asks_one store))
                 (ap (λ (asked : Asked). asked.scratch) (asks_one store)) why;
           }

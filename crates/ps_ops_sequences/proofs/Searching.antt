@@ -13,7 +13,7 @@ use Rattle.ps_ops_operands.specs.declared.failure.Failure.{Failure}
 use Rattle.ps_ops_operands.specs.declared.failure.Failure.TheVariants.{Error, NotMade}
 use Rattle.ps_ops_operands.specs.Changes.{values_in, no_records, no_words}
 use Rattle.ps_ops_strings.specs.Searches.{LacksRoom, SearchesAs, Searches}
-use Rattle.ps_ops_state.specs.declared.lent.Trial.{Trial}
+use Rattle.ps_ops_state.specs.declared.lent.Attempt.{Attempt}
 use Rattle.ps_ops_state.specs.declared.lent.Scratch.{Scratch}
 use Rattle.ps_ops_state.specs.Breaks.{tried}
 use Rattle.ps_ops_state.specs.Lent.{Lent, rooms_of, IsEmpty, scene_of, IsShown, IsGood}
@@ -32,7 +32,7 @@ lacks_rooms scratch (y ∷ x ∷ rest) (inr sought) = inr (inl sought)
 lacks_rooms scratch [] lacks = absurd lacks
 lacks_rooms scratch (y ∷ []) lacks = absurd lacks
 
-module _ (l : Lent) (good : IsGood l) (trial : Trial) (after : List Word) (scratch : Scratch) where
+module _ (l : Lent) (good : IsGood l) (attempt : Attempt) (after : List Word) (scratch : Scratch) where
   abbrev new : Lent
   new = record l { operands = after; scratch = scratch }
 
@@ -60,12 +60,12 @@ module _ (l : Lent) (good : IsGood l) (trial : Trial) (after : List Word) (scrat
   searched_as : (result : Result Unit Failure) (outcome : Outcome (List Value)) (store : Store)
       → IsShown l store
       → SearchesAs Lacks result outcome l.names store l.heap l.operands after
-      → Meets search_asks (operands_effect (scene_of l store) outcome) trial (tried result)
+      → Meets search_asks (operands_effect (scene_of l store) outcome) attempt (tried result)
       (scene_of l store) l new
   searched_as (Ok _) (leaves operands) store shown did =
-      made_meets search_asks trial (scene_of l store) l new _ [] (lacks_for_same trial.refused store)
+      made_meets search_asks attempt (scene_of l store) l new _ [] (lacks_for_same attempt.refused store)
       (left_as operands store shown did) (sym (append-nil l.printed))
-      (logs-same _ l.grants trial.slot)
+      (logs-same _ l.grants attempt.slot)
   searched_as (Ok _) (fails raised) store shown did = absurd did
   searched_as (Err (Error error)) (leaves operands) store shown did = absurd did
   searched_as (Err (Error error)) (fails raised) store shown did = record {
@@ -73,16 +73,16 @@ module _ (l : Lent) (good : IsGood l) (trial : Trial) (after : List Word) (scrat
       did.0,
       ap (λ (ws : List Word). record l { operands = ws; scratch = scratch }) did.1,
     );
-    logs = logs-same 0 l.grants trial.slot;
+    logs = logs-same 0 l.grants attempt.slot;
   }
   searched_as (Err (NotMade reason)) (leaves operands) store shown did =
-      wanting_meets search_asks trial (scene_of l store) l new
-      (record (scene_of l store) { operands = operands }) [] (lacks_for_same trial.refused store)
+      wanting_meets search_asks attempt (scene_of l store) l new
+      (record (scene_of l store) { operands = operands }) [] (lacks_for_same attempt.refused store)
       reason
-      (reason_as _ trial.slot l new no_records no_words Lacks none_asked none_asked
+      (reason_as _ attempt.slot l new no_records no_words Lacks none_asked none_asked
       (λ lacks. inr (inr (inr (lacks_rooms l.scratch _ lacks)))) reason did.0)
       (ap (λ (ws : List Word). record l { operands = ws; scratch = scratch }) did.1)
-      (logs-same 0 l.grants trial.slot)
+      (logs-same 0 l.grants attempt.slot)
   searched_as (Err (NotMade reason)) (fails raised) store shown did = absurd did
 
   searched_here : (result : Result Unit Failure)
@@ -90,7 +90,7 @@ module _ (l : Lent) (good : IsGood l) (trial : Trial) (after : List Word) (scrat
       l.heap l.operands after
       → IsReady l.heap after → IsEmpty scratch
       → IsAtLeast (rooms_of l.scratch) (rooms_of scratch)
-      → Acts search_asks (reading_row search_row) trial (tried result) l new
+      → Acts search_asks (reading_row search_row) attempt (tried result) l new
   searched_here result did ready empty least =
       let well = changed_good l good l.heap l.grants after (keeps-same l.heap) ready in
       record {
@@ -109,21 +109,21 @@ module _ (l : Lent) (good : IsGood l) (trial : Trial) (after : List Word) (scrat
         };
         keeps = keeps-same l.heap;
         stays = stays_as l new refl refl refl refl (omega arith) least;
-        logs = logs-same _ l.grants trial.slot;
+        logs = logs-same _ l.grants attempt.slot;
         framed = tried_framed l.frames result;
       }
 
-pub searches_acts : (l : Lent) → IsGood l → (trial : Trial) (result : Result Unit Failure)
+pub searches_acts : (l : Lent) → IsGood l → (attempt : Attempt) (result : Result Unit Failure)
     (now : Heap) (left : Grants) (after : List Word) (scratch : Scratch) → now ≡ l.heap
     → left ≡ l.grants
     → Searches search_row (vec_capacity l.scratch.text) (vec_capacity l.scratch.sought) result
     l.heap l.operands after
     → IsReady l.heap after → IsEmpty scratch → IsAtLeast (rooms_of l.scratch) (rooms_of scratch)
-    → Acts search_asks (reading_row search_row) trial (tried result) l
+    → Acts search_asks (reading_row search_row) attempt (tried result) l
     (record l { heap = now; grants = left; operands = after; scratch = scratch })
-searches_acts l good trial result now left after scratch same kept did ready empty least =
-    subst (λ (h : Heap). Acts search_asks (reading_row search_row) trial (tried result) l
+searches_acts l good attempt result now left after scratch same kept did ready empty least =
+    subst (λ (h : Heap). Acts search_asks (reading_row search_row) attempt (tried result) l
     (record l { heap = h; grants = left; operands = after; scratch = scratch })) (sym same)
-    (subst (λ (g : Grants). Acts search_asks (reading_row search_row) trial (tried result) l
+    (subst (λ (g : Grants). Acts search_asks (reading_row search_row) attempt (tried result) l
     (record l { grants = g; operands = after; scratch = scratch })) (sym kept)
-    (searched_here l good trial after scratch result did ready empty least))
+    (searched_here l good attempt after scratch result did ready empty least))

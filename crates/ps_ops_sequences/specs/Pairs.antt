@@ -12,7 +12,7 @@ use Rattle.ps_mem.specs.References.{StandsAs, words_for}
 use Rattle.ps_mem.specs.Meaning.{part_of}
 use Rattle.ps_ops_sequences.specs.declared.pairs.Sequence.{Sequence}
 use Rattle.ps_ops_sequences.specs.declared.pairs.Sequence.TheVariants.{Arrays, Strings}
-use Rattle.ps_ops_sequences.specs.declared.pairs.Pair.{Pair}
+use Rattle.ps_ops_sequences.specs.declared.pairs.SequencePair.{SequencePair}
 
 -- the store after what one part holds was written into another from a place on
 abbrev pub written : Sequence → Store → (from to : PartValue) → (place : ℕ) → Store
@@ -37,7 +37,7 @@ abbrev pub StandsIn : Heap → Sequence → Part → Type 0
 StandsIn h Arrays part = StandsAs h Array part.address (part.offset + part.length)
 StandsIn h Strings part = StandsAs h Text part.address (words_for (part.offset + part.length))
 
-pub record IsPair (h : Heap) (pair : Pair) : Type 0 where
+pub record IsPair (h : Heap) (pair : SequencePair) : Type 0 where
   pub from : StandsIn h pair.of pair.from
   pub to : StandsIn h pair.of pair.to
 
@@ -47,11 +47,11 @@ LiesIn births store Arrays part = Unit {0}
 LiesIn births store Strings part =
     part.offset + part.length ≤ length (bytes store (births part.address))
 
-pub record IsPairWithin (births : ℕ → ℕ) (store : Store) (pair : Pair) : Type 0 where
+pub record IsPairWithin (births : ℕ → ℕ) (store : Store) (pair : SequencePair) : Type 0 where
   pub from : LiesIn births store pair.of pair.from
   pub to : LiesIn births store pair.of pair.to
 
 -- the store after what the first of a pair holds was written into the second
-abbrev pub pair_written : (births : ℕ → ℕ) → Store → Pair → (place : ℕ) → Store
+abbrev pub pair_written : (births : ℕ → ℕ) → Store → SequencePair → (place : ℕ) → Store
 pair_written births store pair place =
     written pair.of store (part_of births pair.from) (part_of births pair.to) place

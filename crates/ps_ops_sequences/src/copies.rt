@@ -4,7 +4,7 @@ ghost use Rattle.std.specs.Prelude.{◌≡◌, ◌<◌, false};
 ghost use Rattle.ps_language.specs.Rows.{changing_row};
 ghost use Rattle.ps_language.specs.RowsSequences.{copy_row, putinterval_row};
 ghost use Rattle.ps_ops_state.specs.Acts.{Acts};
-ghost use Rattle.ps_ops_state.specs.Lent.{lent, IsGood};
+ghost use Rattle.ps_ops_state.specs.Lent.{lent_of, IsGood};
 ghost use Rattle.ps_ops_sequences.specs.Asks.{copy_asks, putinterval_asks};
 ghost use Rattle.ps_ops_sequences.specs.Kinds as kinds;
 
@@ -16,22 +16,20 @@ use ps_ops_operands::ranges::interval_within;
 use ps_ops_operands::readers::integer_of;
 use ps_ops_operands::stack_operators::copy_count;
 use ps_ops_state::breaks::{Break, made};
-use ps_ops_state::lent::{Context, Shared, Trial};
+use ps_ops_state::lent::{Attempt, Context, Runtime};
 
 /// `X i Y putinterval`: what `Y` holds into `X` from `i` on, two arrays or two strings, as if all
 /// was read first. Raises `stackunderflow`, `typecheck`, `invalidaccess` and `rangecheck`. Not made
 /// where something is copied and the log takes no record, or a list for bytes can't grow.
 pub fn putinterval<M: Memory>(
     context: &mut Context,
-    shared: &mut Shared,
-    memory: &mut M,
-    trial: Trial,
+    runtime: &mut Runtime<M>,
+    attempt: Attempt,
 ) -> Result<(), Break>
-    requires good { IsGood
-        (lent (M.heap memory.old) (M.grants memory.old) context.old shared.old) }
-    ensures { Acts putinterval_asks (changing_row putinterval_row) trial result
-        (lent (M.heap memory.old) (M.grants memory.old) context.old shared.old)
-        (lent (M.heap memory.new) (M.grants memory.new) context.new shared.new) }
+    requires good { IsGood (lent_of M.heap M.grants context.old runtime.old) }
+    ensures { Acts putinterval_asks (changing_row putinterval_row) attempt result
+        (lent_of M.heap M.grants context.old runtime.old)
+        (lent_of M.heap M.grants context.new runtime.new) }
 {
     let Some((source, key, target)) = context.operands.top_three() else {
         return Err(Break::Raises(ErrorName::StackUnderflow));
@@ -48,7 +46,8 @@ pub fn putinterval<M: Memory>(
     let Some(place) = interval_within(number, pair.from.length as u32, pair.to.length) else {
         return Err(Break::Raises(ErrorName::RangeCheck));
     };
-    if let Err(reason) = copy_contents(memory, trial.slot, pair, place, &mut shared.scratch) {
+    let scratch = &mut runtime.shared.scratch;
+    if let Err(reason) = copy_contents(&mut runtime.memory, attempt.slot, pair, place, scratch) {
         return Err(Break::NotMade(reason));
     }
     context.operands.discard(3);
@@ -60,16 +59,14 @@ pub fn putinterval<M: Memory>(
 /// `typecheck`, `rangecheck`, `stackoverflow` and `invalidaccess`. Not made as `putinterval`.
 pub fn copy_sequence<M: Memory>(
     context: &mut Context,
-    shared: &mut Shared,
-    memory: &mut M,
-    trial: Trial,
+    runtime: &mut Runtime<M>,
+    attempt: Attempt,
 ) -> Result<(), Break>
     requires topmost { kinds.is_dictionary_at context.old.operands 0 ≡ false }
-    requires good { IsGood
-        (lent (M.heap memory.old) (M.grants memory.old) context.old shared.old) }
-    ensures { Acts copy_asks (changing_row copy_row) trial result
-        (lent (M.heap memory.old) (M.grants memory.old) context.old shared.old)
-        (lent (M.heap memory.new) (M.grants memory.new) context.new shared.new) }
+    requires good { IsGood (lent_of M.heap M.grants context.old runtime.old) }
+    ensures { Acts copy_asks (changing_row copy_row) attempt result
+        (lent_of M.heap M.grants context.old runtime.old)
+        (lent_of M.heap M.grants context.new runtime.new) }
 {
     let Some(target) = context.operands.top() else {
         return Err(Break::Raises(ErrorName::StackUnderflow));
@@ -92,7 +89,8 @@ pub fn copy_sequence<M: Memory>(
     if pair.from.length > pair.to.length {
         return Err(Break::Raises(ErrorName::RangeCheck));
     }
-    if let Err(reason) = copy_contents(memory, trial.slot, pair, 0, &mut shared.scratch) {
+    let scratch = &mut runtime.shared.scratch;
+    if let Err(reason) = copy_contents(&mut runtime.memory, attempt.slot, pair, 0, scratch) {
         return Err(Break::NotMade(reason));
     }
     context.operands.replace(2, front_of(target, pair));

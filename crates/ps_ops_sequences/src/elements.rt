@@ -7,14 +7,14 @@ ghost use Rattle.ps_language.specs.Rows.{changing_row, naming_row};
 ghost use Rattle.ps_language.specs.RowsDictionaries.{get_row, put_row};
 ghost use Rattle.ps_language.specs.RowsSequences as sequences;
 ghost use Rattle.ps_ops_state.specs.Acts.{Acts, nothing_asked, stores};
-ghost use Rattle.ps_ops_state.specs.Lent.{lent, IsGood};
+ghost use Rattle.ps_ops_state.specs.Lent.{lent_of, IsGood};
 ghost use Rattle.ps_ops_sequences.specs.Kinds as kinds;
 
 use crate::kinds::is_string_at;
 use ps_mem::Memory;
 use ps_ops_arrays::{arrays, changes};
 use ps_ops_state::breaks::{Break, made, tried};
-use ps_ops_state::lent::{Context, Shared, Trial};
+use ps_ops_state::lent::{Attempt, Context, Runtime};
 use ps_ops_strings::{changes as string_changes, strings};
 
 /// `X i get y` but for dictionaries: the element of an array, or the byte of a string. Raises
@@ -22,21 +22,19 @@ use ps_ops_strings::{changes as string_changes, strings};
 #[inline(always)]
 pub fn get_from_sequence<M: Memory>(
     context: &mut Context,
-    shared: &mut Shared,
-    memory: &mut M,
+    runtime: &mut Runtime<M>,
 ) -> Result<(), Break>
     requires below { kinds.is_dictionary_at context.old.operands 1 ≡ false }
-    requires good { IsGood
-        (lent (M.heap memory.old) (M.grants memory.old) context.old shared.old) }
-    ensures acts { (trial : Trial) → Acts nothing_asked (naming_row get_row) trial result
-        (lent (M.heap memory.old) (M.grants memory.old) context.old shared.old)
-        (lent (M.heap memory.new) (M.grants memory.new) context.new shared.new) }
+    requires good { IsGood (lent_of M.heap M.grants context.old runtime.old) }
+    ensures acts { (attempt : Attempt) → Acts nothing_asked (naming_row get_row) attempt result
+        (lent_of M.heap M.grants context.old runtime.old)
+        (lent_of M.heap M.grants context.new runtime.new) }
     ensures frames { context.new.frames ≡ context.old.frames }
 {
     if is_string_at(&context.operands, 1) {
-        made(strings::get(&mut context.operands, memory))
+        made(strings::get(&mut context.operands, &mut runtime.memory))
     } else {
-        made(arrays::get(&mut context.operands, memory))
+        made(arrays::get(&mut context.operands, &mut runtime.memory))
     }
 }
 
@@ -46,22 +44,20 @@ pub fn get_from_sequence<M: Memory>(
 #[inline(always)]
 pub fn put_into_sequence<M: Memory>(
     context: &mut Context,
-    shared: &mut Shared,
-    memory: &mut M,
-    trial: Trial,
+    runtime: &mut Runtime<M>,
+    attempt: Attempt,
 ) -> Result<(), Break>
     requires below { kinds.is_dictionary_at context.old.operands 2 ≡ false }
-    requires good { IsGood
-        (lent (M.heap memory.old) (M.grants memory.old) context.old shared.old) }
-    ensures acts { Acts (stores one_stored) (naming_row put_row) trial result
-        (lent (M.heap memory.old) (M.grants memory.old) context.old shared.old)
-        (lent (M.heap memory.new) (M.grants memory.new) context.new shared.new) }
+    requires good { IsGood (lent_of M.heap M.grants context.old runtime.old) }
+    ensures acts { Acts (stores one_stored) (naming_row put_row) attempt result
+        (lent_of M.heap M.grants context.old runtime.old)
+        (lent_of M.heap M.grants context.new runtime.new) }
     ensures frames { context.new.frames ≡ context.old.frames }
 {
     if is_string_at(&context.operands, 2) {
-        tried(string_changes::put(&mut context.operands, memory, trial.slot))
+        tried(string_changes::put(&mut context.operands, &mut runtime.memory, attempt.slot))
     } else {
-        tried(changes::put(&mut context.operands, memory, trial.slot))
+        tried(changes::put(&mut context.operands, &mut runtime.memory, attempt.slot))
     }
 }
 
@@ -69,15 +65,13 @@ pub fn put_into_sequence<M: Memory>(
 /// `invalidaccess`. Not made where an element is stored and the log takes no record.
 pub fn astore<M: Memory>(
     context: &mut Context,
-    shared: &mut Shared,
-    memory: &mut M,
-    trial: Trial,
+    runtime: &mut Runtime<M>,
+    attempt: Attempt,
 ) -> Result<(), Break>
-    requires good { IsGood
-        (lent (M.heap memory.old) (M.grants memory.old) context.old shared.old) }
-    ensures { Acts (stores topmost_count) (changing_row sequences.astore_row) trial result
-        (lent (M.heap memory.old) (M.grants memory.old) context.old shared.old)
-        (lent (M.heap memory.new) (M.grants memory.new) context.new shared.new) }
+    requires good { IsGood (lent_of M.heap M.grants context.old runtime.old) }
+    ensures { Acts (stores topmost_count) (changing_row sequences.astore_row) attempt result
+        (lent_of M.heap M.grants context.old runtime.old)
+        (lent_of M.heap M.grants context.new runtime.new) }
 {
-    tried(changes::astore(&mut context.operands, memory, trial.slot))
+    tried(changes::astore(&mut context.operands, &mut runtime.memory, attempt.slot))
 }

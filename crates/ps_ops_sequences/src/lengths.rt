@@ -9,7 +9,7 @@ ghost use Rattle.ps_mem.specs.Heap.{birth_at};
 ghost use Rattle.ps_mem.specs.Meaning.{text_of_name, value_of};
 ghost use Rattle.ps_mem.specs.Shows.{IsSound, IsValue, Shows};
 ghost use Rattle.ps_ops_state.specs.Acts.{Acts, nothing_asked};
-ghost use Rattle.ps_ops_state.specs.Lent.{lent, IsGood};
+ghost use Rattle.ps_ops_state.specs.Lent.{lent_of, IsGood};
 
 use ps_dict::dictionaries;
 use ps_language::access::Access;
@@ -19,7 +19,7 @@ use ps_names::{NameId, Names};
 use ps_ops_operands::access::is_readable;
 use ps_ops_operands::plain;
 use ps_ops_state::breaks::Break;
-use ps_ops_state::lent::{Context, Shared, Trial};
+use ps_ops_state::lent::{Attempt, Context, Runtime};
 use ps_word::words::Word;
 
 /// How many bytes the name of a number has.
@@ -61,22 +61,17 @@ fn measure<M: Memory>(memory: &mut M, names: &Names, word: Word) -> Option<(u32,
 
 /// `x length n`: of an array, a string, a dictionary or a name. Raises `stackunderflow`,
 /// `typecheck` and `invalidaccess`.
-pub fn length<M: Memory>(
-    context: &mut Context,
-    shared: &mut Shared,
-    memory: &mut M,
-) -> Result<(), Break>
-    requires good { IsGood
-        (lent (M.heap memory.old) (M.grants memory.old) context.old shared.old) }
-    ensures acts { (trial : Trial) → Acts nothing_asked (reading_row length_row) trial result
-        (lent (M.heap memory.old) (M.grants memory.old) context.old shared.old)
-        (lent (M.heap memory.new) (M.grants memory.new) context.new shared.new) }
+pub fn length<M: Memory>(context: &mut Context, runtime: &mut Runtime<M>) -> Result<(), Break>
+    requires good { IsGood (lent_of M.heap M.grants context.old runtime.old) }
+    ensures acts { (attempt : Attempt) → Acts nothing_asked (reading_row length_row) attempt result
+        (lent_of M.heap M.grants context.old runtime.old)
+        (lent_of M.heap M.grants context.new runtime.new) }
     ensures frames { context.new.frames ≡ context.old.frames }
 {
     let Some(top) = context.operands.top() else {
         return Err(Break::Raises(ErrorName::StackUnderflow));
     };
-    let Some((count, access)) = measure(memory, &shared.names, top) else {
+    let Some((count, access)) = measure(&mut runtime.memory, &runtime.shared.names, top) else {
         return Err(Break::Raises(ErrorName::TypeCheck));
     };
     if !is_readable(access) {

@@ -37,14 +37,14 @@ pub enum Sequence {
 
 /// Two sequences of one type, of which one is copied into the other.
 #[derive(Clone, Copy, Debug, PartialEq, Eq)]
-pub struct Pair {
+pub struct SequencePair {
     pub of: Sequence,
     pub from: Part,
     pub to: Part,
 }
 
 /// Two arrays or two strings.
-pub fn pair_of(source: Word, target: Word) -> Option<Pair>
+pub fn pair_of(source: Word, target: Word) -> Option<SequencePair>
     ensures parts { (births : ℕ → ℕ) (names : List (List ℕ)) → sequences.as_pair
         (value_of births names source) (value_of births names target) ≡ option_map
         (λ pair. (part_of births pair.from, part_of births pair.to)) result }
@@ -63,7 +63,7 @@ pub fn pair_of(source: Word, target: Word) -> Option<Pair>
 {
     if let Some(to) = array_of(target) {
         return match array_of(source) {
-            Some(from) => Some(Pair {
+            Some(from) => Some(SequencePair {
                 of: Sequence::Arrays,
                 from,
                 to,
@@ -75,7 +75,7 @@ pub fn pair_of(source: Word, target: Word) -> Option<Pair>
         return None;
     };
     match string_of(source) {
-        Some(from) => Some(Pair {
+        Some(from) => Some(SequencePair {
             of: Sequence::Strings,
             from,
             to,
@@ -86,7 +86,7 @@ pub fn pair_of(source: Word, target: Word) -> Option<Pair>
 
 /// As many elements or bytes from the front of the second of a pair on as the first has, with the
 /// attribute of the second.
-pub fn front_of(target: Word, pair: Pair) -> Word
+pub fn front_of(target: Word, pair: SequencePair) -> Word
     requires word { IsWord target.0 }
     requires target { pairs.part_in pair.of (content_in target.0) ≡ Some pair.to }
     requires end { pair.to.offset + pair.to.length < 2 ^ 16 }
@@ -111,7 +111,7 @@ pub fn front_of(target: Word, pair: Pair) -> Word
 pub fn copy_contents<M: Memory>(
     memory: &mut M,
     slot: Slot,
-    pair: Pair,
+    pair: SequencePair,
     place: u16,
     scratch: &mut Scratch,
 ) -> Result<(), NotMade>

@@ -11,7 +11,7 @@ ghost use Rattle.ps_mem.specs.References.{StandsAs};
 ghost use Rattle.ps_mem.specs.Shows.{IsSound, Shows};
 ghost use Rattle.ps_ops_operands.specs.Changes.{IsRecordReason, KeepsLogsWithin, spent};
 ghost use Rattle.ps_ops_state.specs.Acts.{Acts};
-ghost use Rattle.ps_ops_state.specs.Lent.{lent, IsGood};
+ghost use Rattle.ps_ops_state.specs.Lent.{lent_of, IsGood};
 ghost use Rattle.ps_ops_sequences.specs.Asks.{reduce_asks};
 
 use ps_dict::changes::set_access;
@@ -23,7 +23,7 @@ use ps_mem::{Memory, Slot};
 use ps_ops_operands::failure::NotMade;
 use ps_ops_operands::permits::permitted;
 use ps_ops_state::breaks::Break;
-use ps_ops_state::lent::{Context, Shared, Trial};
+use ps_ops_state::lent::{Attempt, Context, Runtime};
 use ps_ops_types::attributes::reduces_to;
 
 /// Gives a dictionary another access, with one record. Not made where the log takes none; nothing
@@ -58,16 +58,14 @@ fn reduce_dictionary<M: Memory>(
 /// where a dictionary's access is stored and the log takes no record.
 fn reduce<M: Memory>(
     context: &mut Context,
-    shared: &mut Shared,
-    memory: &mut M,
-    trial: Trial,
+    runtime: &mut Runtime<M>,
+    attempt: Attempt,
     reduced: Access,
 ) -> Result<(), Break>
-    requires good { IsGood
-        (lent (M.heap memory.old) (M.grants memory.old) context.old shared.old) }
-    ensures { Acts reduce_asks (changing_row (rows.reduce_row reduced)) trial result
-        (lent (M.heap memory.old) (M.grants memory.old) context.old shared.old)
-        (lent (M.heap memory.new) (M.grants memory.new) context.new shared.new) }
+    requires good { IsGood (lent_of M.heap M.grants context.old runtime.old) }
+    ensures { Acts reduce_asks (changing_row (rows.reduce_row reduced)) attempt result
+        (lent_of M.heap M.grants context.old runtime.old)
+        (lent_of M.heap M.grants context.new runtime.new) }
 {
     let Some(word) = context.operands.top() else {
         return Err(Break::Raises(ErrorName::StackUnderflow));
@@ -82,10 +80,10 @@ fn reduce<M: Memory>(
     let Some(address) = word.as_dictionary() else {
         return Err(Break::Raises(ErrorName::TypeCheck));
     };
-    if !reduces_to(access(memory, address), reduced) {
+    if !reduces_to(access(&mut runtime.memory, address), reduced) {
         return Err(Break::Raises(ErrorName::InvalidAccess));
     }
-    match reduce_dictionary(memory, trial.slot, address, reduced) {
+    match reduce_dictionary(&mut runtime.memory, attempt.slot, address, reduced) {
         Ok(()) => Ok(()),
         Err(reason) => Err(Break::NotMade(reason)),
     }
@@ -96,32 +94,28 @@ fn reduce<M: Memory>(
 /// Not made where a dictionary's access is stored and the log takes no record.
 pub fn readonly<M: Memory>(
     context: &mut Context,
-    shared: &mut Shared,
-    memory: &mut M,
-    trial: Trial,
+    runtime: &mut Runtime<M>,
+    attempt: Attempt,
 ) -> Result<(), Break>
-    requires good { IsGood
-        (lent (M.heap memory.old) (M.grants memory.old) context.old shared.old) }
-    ensures { Acts reduce_asks (changing_row rows.readonly_row) trial result
-        (lent (M.heap memory.old) (M.grants memory.old) context.old shared.old)
-        (lent (M.heap memory.new) (M.grants memory.new) context.new shared.new) }
+    requires good { IsGood (lent_of M.heap M.grants context.old runtime.old) }
+    ensures { Acts reduce_asks (changing_row rows.readonly_row) attempt result
+        (lent_of M.heap M.grants context.old runtime.old)
+        (lent_of M.heap M.grants context.new runtime.new) }
 {
-    reduce(context, shared, memory, trial, Access::ReadOnly)
+    reduce(context, runtime, attempt, Access::ReadOnly)
 }
 
 /// `X noaccess X`: an array or a string of which nothing can be done, or a dictionary whose object
 /// is so. Raises `stackunderflow` and `typecheck`. Not made as `readonly`.
 pub fn noaccess<M: Memory>(
     context: &mut Context,
-    shared: &mut Shared,
-    memory: &mut M,
-    trial: Trial,
+    runtime: &mut Runtime<M>,
+    attempt: Attempt,
 ) -> Result<(), Break>
-    requires good { IsGood
-        (lent (M.heap memory.old) (M.grants memory.old) context.old shared.old) }
-    ensures { Acts reduce_asks (changing_row rows.noaccess_row) trial result
-        (lent (M.heap memory.old) (M.grants memory.old) context.old shared.old)
-        (lent (M.heap memory.new) (M.grants memory.new) context.new shared.new) }
+    requires good { IsGood (lent_of M.heap M.grants context.old runtime.old) }
+    ensures { Acts reduce_asks (changing_row rows.noaccess_row) attempt result
+        (lent_of M.heap M.grants context.old runtime.old)
+        (lent_of M.heap M.grants context.new runtime.new) }
 {
-    reduce(context, shared, memory, trial, Access::NoAccess)
+    reduce(context, runtime, attempt, Access::NoAccess)
 }

@@ -14,7 +14,7 @@ use Rattle.ps_ops_operands.specs.declared.failure.NotMade.TheVariants.{Memory}
 use Rattle.ps_ops_operands.specs.Changes.{KeepsLogsWithin, most_records, spent}
 use Rattle.ps_ops_state.specs.declared.breaks.Break.{Break}
 use Rattle.ps_ops_state.specs.declared.breaks.Break.TheVariants.{Raises, NotMade}
-use Rattle.ps_ops_state.specs.declared.lent.Trial.{Trial}
+use Rattle.ps_ops_state.specs.declared.lent.Attempt.{Attempt}
 use Rattle.ps_ops_state.specs.declared.lent.Scratch.{Scratch}
 use Rattle.ps_ops_state.specs.Lent.{Lent, Rooms, rooms_of, IsEmpty, scene_of, IsShown, IsGood}
 use Rattle.ps_ops_state.specs.Acts.{Asked, IsAtLeast, names_formed, needs_as, needs_between, needs_of_refused, IsReason}
@@ -22,26 +22,26 @@ use Rattle.ps_ops_state.specs.Acts.{Lasts, Stays, Meets, effect_in, Acts}
 use Rattle.ps_ops_state.proofs.Meeting.{keeps-same, logs-same, stays_as, at_least-same, made_meets, unmade_meets}
 use Rattle.ps_ops_state.proofs.Meeting.{wanting_meets, raised_meets, meets_by}
 
-module _ (row : Row) (trial : Trial) (asks : Scene → Asked) (l : Lent) where
+module _ (row : Row) (attempt : Attempt) (asks : Scene → Asked) (l : Lent) where
   -- the row makes what is left, for which there is room
   pub record Made (new : Lent) (store : Store) : Type 0 where
     pub after : Store
     pub output : List ℕ
     pub is : effect_in row l store ≡ makes (scene_of new after) output
-    pub enough : lacks_room trial.refused store after ≡ false
+    pub enough : lacks_room attempt.refused store after ≡ false
     pub shown : IsShown new after
     pub lasts : Lasts store after
     pub printed : new.printed ≡ l.printed ++ output
-    pub logs : KeepsLogsWithin (asks (scene_of l store)).records l.grants new.grants trial.slot
+    pub logs : KeepsLogsWithin (asks (scene_of l store)).records l.grants new.grants attempt.slot
 
   -- the row would make something, and there is a reason why not
   pub record Wants (reason : Reason) (new : Lent) (store : Store) : Type 0 where
     pub scene : Scene
     pub output : List ℕ
     pub is : effect_in row l store ≡ makes scene output
-    pub enough : lacks_room trial.refused store scene.store ≡ false
+    pub enough : lacks_room attempt.refused store scene.store ≡ false
     pub why : IsReason (needs_between (asks (scene_of l store)) (scene_of l store) scene output)
-        trial.slot l new reason
+        attempt.slot l new reason
 
   -- the row would form a name
   pub record FormsName (store : Store) : Type 0 where
@@ -51,7 +51,7 @@ module _ (row : Row) (trial : Trial) (asks : Scene → Asked) (l : Lent) where
     pub formed : 1 ≤ names_formed (scene_of l store) scene
 
   name_reason : (scratch : Rooms) (count : ℕ) (new : Lent) → 1 ≤ count
-      → IsReason (needs_of_refused scratch count) trial.slot l new Memory
+      → IsReason (needs_of_refused scratch count) attempt.slot l new Memory
   name_reason scratch zero new some = absurd (omega (arith, some))
   name_reason scratch (suc count) new some = inr (inl (omega arith))
 
@@ -59,7 +59,7 @@ module _ (row : Row) (trial : Trial) (asks : Scene → Asked) (l : Lent) where
   named_as : (scene : Scene) (output : List ℕ) (store : Store) (new : Lent) (lacking : Bool)
       → 1 ≤ names_formed (scene_of l store) scene
       → IsReason (needs_as (asks (scene_of l store)) (scene_of l store) (makes scene output)
-      lacking) trial.slot l new Memory
+      lacking) attempt.slot l new Memory
   named_as scene output store new true some =
       name_reason (asks (scene_of l store)).scratch (names_formed (scene_of l store) scene) new
       some
@@ -72,12 +72,12 @@ module _ (row : Row) (trial : Trial) (asks : Scene → Asked) (l : Lent) where
       but = record l { grants = grants; room = room; scratch = scratch }
 
       module _ (more : l.room ≤ room) (least : IsAtLeast (rooms_of l.scratch) (rooms_of scratch))
-          (empty : IsEmpty scratch) (logs : KeepsLogsWithin 0 l.grants grants trial.slot) where
+          (empty : IsEmpty scratch) (logs : KeepsLogsWithin 0 l.grants grants attempt.slot) where
         same_acts : (result : Result Unit Break) → OnErr result (l.frames ≡ l.frames)
             → spent result most_records ≡ 0
             → ((store : Store) → IsShown l store
-            → Meets asks (effect_in row l store) trial result (scene_of l store) l but)
-            → Acts asks row trial result l but
+            → Meets asks (effect_in row l store) attempt result (scene_of l store) l but)
+            → Acts asks row attempt result l but
         same_acts result framed none meets = record {
           meets = meets;
           good = record {
@@ -92,50 +92,50 @@ module _ (row : Row) (trial : Trial) (asks : Scene → Asked) (l : Lent) where
           };
           keeps = keeps-same l.heap;
           stays = stays_as l _ refl refl refl refl (omega (arith, more)) least;
-          logs = subst (λ (n : ℕ). KeepsLogsWithin n l.grants grants trial.slot) (sym none) logs;
+          logs = subst (λ (n : ℕ). KeepsLogsWithin n l.grants grants attempt.slot) (sym none) logs;
           framed = framed;
         }
 
         pub raising_acts : (error : ErrorName)
             → ((store : Store) → IsShown l store → effect_in row l store ≡ raises error)
-            → Acts asks row trial (Err (Raises error)) l but
+            → Acts asks row attempt (Err (Raises error)) l but
         raising_acts error is = same_acts (Err (Raises error)) refl refl λ store shown.
-            meets_by asks trial (scene_of l store) l but (Err (Raises error)) _ _ (is store shown)
-            (raised_meets asks trial (scene_of l store) l but error refl logs)
+            meets_by asks attempt (scene_of l store) l but (Err (Raises error)) _ _ (is store shown)
+            (raised_meets asks attempt (scene_of l store) l but error refl logs)
 
         pub wanting_acts : (reason : Reason)
             → ((store : Store) → IsShown l store → Wants reason but store)
-            → Acts asks row trial (Err (NotMade reason)) l but
+            → Acts asks row attempt (Err (NotMade reason)) l but
         wanting_acts reason wants = same_acts (Err (NotMade reason)) refl refl λ store shown.
             let w = wants store shown in
-            meets_by asks trial (scene_of l store) l but (Err (NotMade reason)) _ _ w.is
-            (wanting_meets asks trial (scene_of l store) l but w.scene w.output w.enough reason
+            meets_by asks attempt (scene_of l store) l but (Err (NotMade reason)) _ _ w.is
+            (wanting_meets asks attempt (scene_of l store) l but w.scene w.output w.enough reason
             w.why refl logs)
 
         pub naming_acts : ((store : Store) → IsShown l store → FormsName store)
-            → Acts asks row trial (Err (NotMade Memory)) l but
+            → Acts asks row attempt (Err (NotMade Memory)) l but
         naming_acts names = same_acts (Err (NotMade Memory)) refl refl λ store shown.
             let n = names store shown in
-            meets_by asks trial (scene_of l store) l but (Err (NotMade Memory)) _ _ n.is
-            (unmade_meets asks trial (scene_of l store) l but n.scene n.output Memory
+            meets_by asks attempt (scene_of l store) l but (Err (NotMade Memory)) _ _ n.is
+            (unmade_meets asks attempt (scene_of l store) l but n.scene n.output Memory
             (named_as n.scene n.output store but
-            (lacks_room trial.refused store n.scene.store) n.formed) refl logs)
+            (lacks_room attempt.refused store n.scene.store) n.formed) refl logs)
 
     pub raised_acts : (error : ErrorName)
         → ((store : Store) → IsShown l store → effect_in row l store ≡ raises error)
-        → Acts asks row trial (Err (Raises error)) l l
+        → Acts asks row attempt (Err (Raises error)) l l
     raised_acts = raising_acts l.grants l.room l.scratch (omega arith) (at_least-same _) good.empty
-        (logs-same 0 l.grants trial.slot)
+        (logs-same 0 l.grants attempt.slot)
 
     pub left_acts : (new : Lent) → IsGood new → Keeps l.heap new.heap → Stays l new
-        → KeepsLogsWithin most_records l.grants new.grants trial.slot
+        → KeepsLogsWithin most_records l.grants new.grants attempt.slot
         → ((store : Store) → IsShown l store → Made new store)
-        → Acts asks row trial (Ok tt) l new
+        → Acts asks row attempt (Ok tt) l new
     left_acts new well keeps stays logs made = record {
       meets = λ store shown.
           let m = made store shown in
-          meets_by asks trial (scene_of l store) l new (Ok tt) _ _ m.is
-          (made_meets asks trial (scene_of l store) l new (scene_of new m.after) m.output
+          meets_by asks attempt (scene_of l store) l new (Ok tt) _ _ m.is
+          (made_meets asks attempt (scene_of l store) l new (scene_of new m.after) m.output
           m.enough
           (record { is = refl; shown = m.shown; lasts = m.lasts }) m.printed m.logs);
       good = well;

@@ -37,7 +37,7 @@ use Rattle.ps_ops_operands.specs.Changes.{values_in, ChangesAs, KeepsLogsWithin,
 use Rattle.ps_ops_operands.specs.Changes.{refusing, IsRoomReason, Makes}
 use Rattle.ps_ops_state.proofs.Asking.{Leaving, IsUnasked, IsMade}
 use Rattle.ps_ops_control.specs.declared.frames.Frame.{Frame}
-use Rattle.ps_ops_state.specs.declared.lent.Trial.{Trial}
+use Rattle.ps_ops_state.specs.declared.lent.Attempt.{Attempt}
 use Rattle.ps_ops_state.specs.Breaks.{tried}
 use Rattle.ps_ops_state.specs.Lent.{Lent, scene_of, IsShown, IsGood}
 use Rattle.ps_ops_state.specs.Acts.{Asked, needs_as, nothing_asked, stores, Lasts, IsLeft, ActsAs, Meets, Acts, over}
@@ -175,10 +175,10 @@ tried_logs result few most old new slot more logs =
     (logs_more (spent result few) (spent result most) old new slot (spent_more result few most more)
     logs)
 
-module _ (l : Lent) (good : IsGood l) (trial : Trial) (new : Heap) (left : Grants)
+module _ (l : Lent) (good : IsGood l) (attempt : Attempt) (new : Heap) (left : Grants)
     (after : List Word) (keeps : Keeps l.heap new) where
   abbrev Logs : ℕ → Type 0
-  Logs most = KeepsLogsWithin most l.grants left trial.slot
+  Logs most = KeepsLogsWithin most l.grants left attempt.slot
 
   one_record : (n : ℕ) → min 1 n ≤ most_records
   one_record n = grind (arith, nat_tests)
@@ -191,13 +191,13 @@ module _ (l : Lent) (good : IsGood l) (trial : Trial) (new : Heap) (left : Grant
         → IsShown l store → Leaving (IsUnasked store) outcome → RowLasts store outcome
         → Logs (spent (tried result) (asks (scene_of l store)).records)
         → ChangesAs (λ reason change. IsRecordReason reason
-        (min 1 (count (values_in l.heap l.names l.operands))) trial.slot l.grants left) result
+        (min 1 (count (values_in l.heap l.names l.operands))) attempt.slot l.grants left) result
         outcome l.names l.heap new l.operands after
-        → Meets asks (change_effect (scene_of l store) outcome) trial (tried result)
+        → Meets asks (change_effect (scene_of l store) outcome) attempt (tried result)
         (scene_of l store) l (over l new left after)
     changed_as (Ok _) (leaves change) store shown none lasts logs did =
-        made_meets asks trial (scene_of l store) l (over l new left after) _ []
-        (lacks_nothing trial.refused store change.store none.such)
+        made_meets asks attempt (scene_of l store) l (over l new left after) _ []
+        (lacks_nothing attempt.refused store change.store none.such)
         (changed_left l good new left after keeps store change.store lasts.lasts shown did.store
         did.within change.operands did.operands) (sym (append-nil l.printed)) logs
     changed_as (Ok _) (fails raised) store shown none lasts logs did = absurd did
@@ -205,9 +205,9 @@ module _ (l : Lent) (good : IsGood l) (trial : Trial) (new : Heap) (left : Grant
     changed_as (Err (Error error)) (fails raised) store shown none lasts logs did =
         record { did = (did.0, λ i. over l (did.1.0 i) left (did.1.1 i)); logs = logs }
     changed_as (Err (NotMade reason)) (leaves change) store shown none lasts logs did =
-        wanting_meets asks trial (scene_of l store) l (over l new left after) _ []
-        (lacks_nothing trial.refused store change.store none.such) reason
-        (record_reason _ trial.slot l (over l new left after) _ refl reason did.0)
+        wanting_meets asks attempt (scene_of l store) l (over l new left after) _ []
+        (lacks_nothing attempt.refused store change.store none.such) reason
+        (record_reason _ attempt.slot l (over l new left after) _ refl reason did.0)
         (λ i. over l (did.1.0 i) left (did.1.1 i)) logs
     changed_as (Err (NotMade reason)) (fails raised) store shown none lasts logs did = absurd did
 
@@ -215,21 +215,21 @@ module _ (l : Lent) (good : IsGood l) (trial : Trial) (new : Heap) (left : Grant
         → ((store : Store) (operands : List Value) → Leaving (IsUnasked store) (row store operands))
         → ((store : Store) → IsShown l store
         → RowLasts store (row store (values_in l.heap l.names l.operands)))
-        → Changes row count result trial.slot l.grants left l.heap new l.operands after
+        → Changes row count result attempt.slot l.grants left l.heap new l.operands after
         → IsReady new after
         → ((names : List (List ℕ)) → Logs (spent result (min 1 (count (values_in l.heap names
         l.operands)))))
-        → Acts asks (changing_row row) trial (tried result) l (over l new left after)
+        → Acts asks (changing_row row) attempt (tried result) l (over l new left after)
     changes_acts row result none lasts did ready logs = record {
       meets = λ store shown.
           let values = values_in l.heap l.names l.operands in
           changed_as result (row store values) store shown (none store values) (lasts store shown)
-          (tried_logs result _ _ l.grants left trial.slot (omega arith) (logs l.names))
+          (tried_logs result _ _ l.grants left attempt.slot (omega arith) (logs l.names))
           (did.meets l.names store shown.shows shown.operands);
       good = changed_good l good new left after keeps ready;
       keeps = keeps;
       stays = stays_as l _ refl refl refl refl (omega arith) (at_least-same _);
-      logs = tried_logs result _ _ l.grants left trial.slot (one_record _) (logs l.names);
+      logs = tried_logs result _ _ l.grants left attempt.slot (one_record _) (logs l.names);
       framed = tried_framed l.frames result;
     }
 
@@ -267,7 +267,7 @@ module _ (l : Lent) (good : IsGood l) (trial : Trial) (new : Heap) (left : Grant
         (length c.store - length store)) result
         (if lacking then fails VmError else leaves change) l.names l.heap new l.operands after
         → ActsAs (needs_as (nothing_asked (scene_of l store)) (scene_of l store) (makes made_scene []) lacking)
-        trial.slot
+        attempt.slot
         (scene_of l store) (tried result) (makes made_scene []) lacking l (over l new left after)
     made_as true (Ok _) did = absurd did
     made_as true (Err (Error error)) did = (
@@ -286,19 +286,19 @@ module _ (l : Lent) (good : IsGood l) (trial : Trial) (new : Heap) (left : Grant
     )
     made_as false (Err (Error error)) did = absurd did
     made_as false (Err (NotMade reason)) did = (
-      room_reason _ trial.slot l (over l new left after) _ _ refl refl asks_some reason did.0,
+      room_reason _ attempt.slot l (over l new left after) _ _ refl refl asks_some reason did.0,
       λ i. over l (did.1.0 i) left (did.1.1 i),
     )
 
   makes_as : (result : Result Unit Failure) (outcome : Outcome Change) (store : Store)
       → IsShown l store → Leaving (IsMade store) outcome → Logs (spent (tried result) 0)
       → ChangesAs (λ reason c. IsRoomReason reason l.heap (made_between store c.store)
-      (length c.store - length store)) result (refusing trial.refused store outcome) l.names l.heap
+      (length c.store - length store)) result (refusing attempt.refused store outcome) l.names l.heap
       new l.operands after
-      → Meets nothing_asked (change_effect (scene_of l store) outcome) trial (tried result)
+      → Meets nothing_asked (change_effect (scene_of l store) outcome) attempt (tried result)
       (scene_of l store) l (over l new left after)
   makes_as result (leaves change) store shown made logs did = record {
-    did = made_as change store shown made.such (lacks_room trial.refused store change.store) result
+    did = made_as change store shown made.such (lacks_room attempt.refused store change.store) result
         did;
     logs = logs;
   }
@@ -309,17 +309,17 @@ module _ (l : Lent) (good : IsGood l) (trial : Trial) (new : Heap) (left : Grant
 
   pub makes_acts : (row : Store → List Value → Outcome Change) (result : Result Unit Failure)
       → ((store : Store) (operands : List Value) → Leaving (IsMade store) (row store operands))
-      → Makes row trial.refused result l.heap new l.operands after → IsReady new after → Logs 0
-      → Acts nothing_asked (changing_row row) trial (tried result) l (over l new left after)
+      → Makes row attempt.refused result l.heap new l.operands after → IsReady new after → Logs 0
+      → Acts nothing_asked (changing_row row) attempt (tried result) l (over l new left after)
   makes_acts row result made did ready logs = record {
     meets = λ store shown.
         let values = values_in l.heap l.names l.operands in
         makes_as result (row store values) store shown (made store values)
-        (logs_more 0 _ l.grants left trial.slot (omega arith) logs)
+        (logs_more 0 _ l.grants left attempt.slot (omega arith) logs)
         (did.meets l.names store shown.shows shown.operands);
     good = changed_good l good new left after keeps ready;
     keeps = keeps;
     stays = stays_as l _ refl refl refl refl (omega arith) (at_least-same _);
-    logs = logs_more 0 _ l.grants left trial.slot (omega arith) logs;
+    logs = logs_more 0 _ l.grants left attempt.slot (omega arith) logs;
     framed = tried_framed l.frames result;
   }

@@ -11,7 +11,7 @@ use Rattle.ps_mem.specs.Keeps.{Keeps}
 use Rattle.ps_mem.specs.Shows.{IsSound, AreValues, AreWithin, Shows}
 use Rattle.ps_mem.proofs.KeepsLemmas.{AreValues-kept, AreWithin-kept, values_of-kept, known_values}
 use Rattle.ps_ops_operands.specs.Changes.{values_in, KeepsLogsWithin, most_records}
-use Rattle.ps_ops_state.specs.declared.lent.Trial.{Trial}
+use Rattle.ps_ops_state.specs.declared.lent.Attempt.{Attempt}
 use Rattle.ps_ops_state.specs.declared.lent.Scratch.{Scratch}
 use Rattle.ps_ops_state.specs.Lent.{Lent, rooms_of, IsEmpty, scene_of, IsShown, IsGood}
 use Rattle.ps_ops_state.specs.Acts.{Asked, IsAtLeast, Lasts, effect_in, Acts}
@@ -19,7 +19,7 @@ use Rattle.ps_ops_state.proofs.Meeting.{keeps-same, lasts-same, logs-same, stays
 use Rattle.ps_ops_state.proofs.Acting.{Made, left_acts}
 use Rattle.ps_ops_state.proofs.Lifts.{changed_good, changed_left}
 
-module _ (row : Row) (trial : Trial) (asks : Scene → Asked) (l : Lent) (after : List Word) where
+module _ (row : Row) (attempt : Attempt) (asks : Scene → Asked) (l : Lent) (after : List Word) where
   -- the row leaves what these words stand for
   pub record LeavesWords (store : Store) : Type 0 where
     pub is : effect_in row l store
@@ -35,7 +35,7 @@ module _ (row : Row) (trial : Trial) (asks : Scene → Asked) (l : Lent) (after 
     pub lasts : Lasts store later
     pub shows : Shows new l.names later
     pub within : AreWithin l.heap l.names store after
-    pub logs : KeepsLogsWithin (asks (scene_of l store)).records l.grants left trial.slot
+    pub logs : KeepsLogsWithin (asks (scene_of l store)).records l.grants left attempt.slot
 
   module _ (good : IsGood l) (values : AreValues l.heap after) where
     module _ (new : Heap) (left : Grants) (scratch : Scratch) (keeps : Keeps l.heap new) where
@@ -43,7 +43,7 @@ module _ (row : Row) (trial : Trial) (asks : Scene → Asked) (l : Lent) (after 
       later_lent = record l { heap = new; grants = left; operands = after; scratch = scratch }
 
       made_store : (store : Store) → IsShown l store → LeavesStore new left store
-          → Made row trial asks l later_lent store
+          → Made row attempt asks l later_lent store
       made_store store shown leaves =
           let known = known_values l.heap after values in
           let is = changed_left l good new left after keeps store leaves.later leaves.lasts shown
@@ -53,7 +53,7 @@ module _ (row : Row) (trial : Trial) (asks : Scene → Asked) (l : Lent) (after 
             after = leaves.later;
             output = [];
             is = leaves.is ∙ ap (λ scene. makes scene []) (sym is.is);
-            enough = lacks_nothing trial.refused store leaves.later leaves.unasked;
+            enough = lacks_nothing attempt.refused store leaves.later leaves.unasked;
             shown = record {
               shows = is.shown.shows;
               operands = is.shown.operands;
@@ -67,13 +67,13 @@ module _ (row : Row) (trial : Trial) (asks : Scene → Asked) (l : Lent) (after 
 
       -- a store that makes no object
       pub store_acts : IsSound new → IsAtLeast (rooms_of l.scratch) (rooms_of scratch)
-          → IsEmpty scratch → KeepsLogsWithin most_records l.grants left trial.slot
+          → IsEmpty scratch → KeepsLogsWithin most_records l.grants left attempt.slot
           → ((store : Store) → IsShown l store → LeavesStore new left store)
-          → Acts asks row trial (Ok tt) l later_lent
+          → Acts asks row attempt (Ok tt) l later_lent
       store_acts sound least empty logs leaves =
           let well = changed_good l good new left after keeps
           (record { sound = sound; values = AreValues-kept l.heap new keeps after values }) in
-          left_acts row trial asks l good later_lent (record {
+          left_acts row attempt asks l good later_lent (record {
             sound = well.sound;
             operands = well.operands;
             dictionaries = well.dictionaries;
@@ -87,10 +87,10 @@ module _ (row : Row) (trial : Trial) (asks : Scene → Asked) (l : Lent) (after 
 
     -- operands alone
     pub words_acts : ((store : Store) → IsShown l store → LeavesWords store)
-        → Acts asks row trial (Ok tt) l (record l { operands = after })
+        → Acts asks row attempt (Ok tt) l (record l { operands = after })
     words_acts leaves =
         store_acts l.heap l.grants l.scratch (keeps-same l.heap) good.sound (at_least-same _)
-        good.empty (logs-same _ l.grants trial.slot) λ store shown.
+        good.empty (logs-same _ l.grants attempt.slot) λ store shown.
         let words = leaves store shown in
         record {
           later = store;
@@ -99,5 +99,5 @@ module _ (row : Row) (trial : Trial) (asks : Scene → Asked) (l : Lent) (after 
           lasts = lasts-same store;
           shows = shown.shows;
           within = words.within;
-          logs = logs-same _ l.grants trial.slot;
+          logs = logs-same _ l.grants attempt.slot;
         }

@@ -14,7 +14,7 @@ use Rattle.ps_ops_operands.specs.declared.failure.NotMade.{NotMade as Reason}
 use Rattle.ps_ops_operands.specs.declared.failure.NotMade.TheVariants.{LogFull, LogClosed, NeedSpace, Memory}
 use Rattle.ps_ops_operands.specs.Changes.{KeepsLogsWithin}
 use Rattle.ps_ops_state.specs.declared.breaks.Break.TheVariants.{Raises, NotMade}
-use Rattle.ps_ops_state.specs.declared.lent.Trial.{Trial}
+use Rattle.ps_ops_state.specs.declared.lent.Attempt.{Attempt}
 use Rattle.ps_ops_state.specs.Lent.{Lent, Rooms, scene_of, IsShown, IsGood}
 use Rattle.ps_ops_state.specs.Acts.{Asked, needs_as, needs_of_refused, IsLeft, names_formed, lacks, IsReason, IsRefused}
 use Rattle.ps_ops_state.specs.Acts.{MayNote, ActsAs, effect_in, Acts}
@@ -91,7 +91,7 @@ module _ (l : Lent) (more names : List (List ℕ)) (are : names ≡ l.names ++ m
       (record (scene_of l store) { names = ns })) (sym are) (named_left l more store shown)
 
   -- ---- a refused step, whose names are formed
-  module _ (row : Row) (trial : Trial) (grants : Grants) where
+  module _ (row : Row) (attempt : Attempt) (grants : Grants) where
     abbrev refusing : Lent
     refusing = record l { grants = grants; names = names }
 
@@ -101,17 +101,17 @@ module _ (l : Lent) (more names : List (List ℕ)) (are : names ≡ l.names ++ m
       pub output : List ℕ
       pub is : effect_in row l store ≡ makes scene output
       pub names_are : scene.names ≡ names
-      pub lacking : lacks_room trial.refused store scene.store ≡ true
+      pub lacking : lacks_room attempt.refused store scene.store ≡ true
 
     pub refused_acts : (asks : Scene → Asked) → IsGood formed
-        → KeepsLogsWithin 0 l.grants grants trial.slot → MayNote trial.slot l refusing names
+        → KeepsLogsWithin 0 l.grants grants attempt.slot → MayNote attempt.slot l refusing names
         → ((store : Store) → IsShown l store → Lacks store)
-        → Acts asks row trial (Err (Raises VmError)) l refusing
+        → Acts asks row attempt (Err (Raises VmError)) l refusing
     refused_acts asks good logs may each = record {
       meets = λ store shown.
           let lack = each store shown in
           let left = formed_left store shown in
-          let refused : IsRefused trial.slot (scene_of l store) l refusing names = record {
+          let refused : IsRefused attempt.slot (scene_of l store) l refusing names = record {
             is = refl;
             left = record {
               is = left.is;
@@ -125,11 +125,11 @@ module _ (l : Lent) (more names : List (List ℕ)) (are : names ≡ l.names ++ m
             };
             may_note = may;
           } in
-          meets_by asks trial (scene_of l store) l refusing (Err (Raises VmError)) _ _ lack.is
-          (refused_meets asks trial (scene_of l store) l refusing lack.scene lack.output
+          meets_by asks attempt (scene_of l store) l refusing (Err (Raises VmError)) _ _ lack.is
+          (refused_meets asks attempt (scene_of l store) l refusing lack.scene lack.output
           lack.lacking
           (subst (λ (ns : List (List ℕ)).
-          IsRefused trial.slot (scene_of l store) l refusing ns) (sym lack.names_are) refused) logs);
+          IsRefused attempt.slot (scene_of l store) l refusing ns) (sym lack.names_are) refused) logs);
       good = record {
         sound = good.sound;
         operands = good.operands;
@@ -156,24 +156,24 @@ module _ (l : Lent) (more names : List (List ℕ)) (are : names ≡ l.names ++ m
 
     -- it is not made, for want of the records of its note
     pub unnoted_acts : (asks : Scene → Asked) → IsGood l
-        → KeepsLogsWithin 0 l.grants grants trial.slot → (reason : Reason)
+        → KeepsLogsWithin 0 l.grants grants attempt.slot → (reason : Reason)
         → ((store : Store) → IsShown l store → Lacks store)
         → ((store : Store) → IsReason (needs_of_refused (asks (scene_of l store)).scratch
-        (length names - length l.names)) trial.slot l (record l { grants = grants }) reason)
-        → Acts asks row trial (Err (NotMade reason)) l (record l { grants = grants })
+        (length names - length l.names)) attempt.slot l (record l { grants = grants }) reason)
+        → Acts asks row attempt (Err (NotMade reason)) l (record l { grants = grants })
     unnoted_acts asks good logs reason each why = record {
       meets = λ store shown.
           let lack = each store shown in
-          meets_by asks trial (scene_of l store) l (record l { grants = grants })
+          meets_by asks attempt (scene_of l store) l (record l { grants = grants })
           (Err (NotMade reason)) _ _ lack.is
           (record {
             did = subst (λ (lacking : Bool). ActsAs (needs_as (asks (scene_of l store))
-                (scene_of l store) (makes lack.scene lack.output) lacking) trial.slot
+                (scene_of l store) (makes lack.scene lack.output) lacking) attempt.slot
                 (scene_of l store) (Err (NotMade reason)) (makes lack.scene lack.output) lacking l
                 (record l { grants = grants })) (sym lack.lacking) (
                   subst (λ (ns : List (List ℕ)). IsReason
                       (needs_of_refused (asks (scene_of l store)).scratch (length ns - length l.names))
-                      trial.slot l (record l { grants = grants }) reason) (sym lack.names_are)
+                      attempt.slot l (record l { grants = grants }) reason) (sym lack.names_are)
                       (why store),
                   refl,
                 );
@@ -196,7 +196,7 @@ module _ (l : Lent) (more names : List (List ℕ)) (are : names ≡ l.names ++ m
     }
 
   -- the row of an operator, and another for what it does under the name
-  module _ (row other : Row) (asks others : Scene → Asked) (trial : Trial)
+  module _ (row other : Row) (asks others : Scene → Asked) (attempt : Attempt)
       (effects : (store : Store) → IsShown l store
       → effect_in row l store ≡ effect_in other formed store)
       (asked : (store : Store) → IsShown l store
@@ -204,18 +204,18 @@ module _ (l : Lent) (more names : List (List ℕ)) (are : names ≡ l.names ++ m
     -- ---- done
     done_as : (store : Store) (effect : Effect) (needs : Asked) (new : Lent)
         → ActsAs (needs_as needs (scene_of formed store) effect
-        (lacks trial.refused (scene_of formed store) effect)) trial.slot (scene_of formed store)
-        (Ok tt) effect (lacks trial.refused (scene_of formed store) effect) formed new
+        (lacks attempt.refused (scene_of formed store) effect)) attempt.slot (scene_of formed store)
+        (Ok tt) effect (lacks attempt.refused (scene_of formed store) effect) formed new
         → ActsAs (needs_as needs (scene_of l store) effect
-        (lacks trial.refused (scene_of l store) effect)) trial.slot (scene_of l store) (Ok tt)
-        effect (lacks trial.refused (scene_of l store) effect) l new
+        (lacks attempt.refused (scene_of l store) effect)) attempt.slot (scene_of l store) (Ok tt)
+        effect (lacks attempt.refused (scene_of l store) effect) l new
     done_as store (makes scene output) needs new did =
-        by (lacks_room trial.refused store scene.store) did
+        by (lacks_room attempt.refused store scene.store) did
       where
         by : (lacking : Bool)
             → ActsAs (needs_as needs (scene_of formed store) (makes scene output) lacking)
-            trial.slot (scene_of formed store) (Ok tt) (makes scene output) lacking formed new
-            → ActsAs (needs_as needs (scene_of l store) (makes scene output) lacking) trial.slot
+            attempt.slot (scene_of formed store) (Ok tt) (makes scene output) lacking formed new
+            → ActsAs (needs_as needs (scene_of l store) (makes scene output) lacking) attempt.slot
             (scene_of l store) (Ok tt) (makes scene output) lacking l new
         by false done = done
         by true done = absurd done
@@ -223,23 +223,23 @@ module _ (l : Lent) (more names : List (List ℕ)) (are : names ≡ l.names ++ m
     done_as store (raises error) needs new did = absurd did
     done_as store (calls deed) needs new did = absurd did
 
-    pub formed_acts : (new : Lent) → Acts others other trial (Ok tt) formed new
-        → Acts asks row trial (Ok tt) l new
+    pub formed_acts : (new : Lent) → Acts others other attempt (Ok tt) formed new
+        → Acts asks row attempt (Ok tt) l new
     formed_acts new acts = record {
       meets = λ store shown.
           let did = acts.meets store (formed_left store shown).shown in
           let same = asked store shown in
-          meets_by asks trial (scene_of l store) l new (Ok tt) (effect_in row l store)
+          meets_by asks attempt (scene_of l store) l new (Ok tt) (effect_in row l store)
           (effect_in other formed store) (effects store shown)
           (record {
             did = done_as store (effect_in other formed store) (asks (scene_of l store)) new
                 (subst (λ (a : Asked). ActsAs (needs_as a (scene_of formed store)
                 (effect_in other formed store)
-                (lacks trial.refused (scene_of formed store) (effect_in other formed store)))
-                trial.slot (scene_of formed store) (Ok tt) (effect_in other formed store)
-                (lacks trial.refused (scene_of formed store) (effect_in other formed store)) formed
+                (lacks attempt.refused (scene_of formed store) (effect_in other formed store)))
+                attempt.slot (scene_of formed store) (Ok tt) (effect_in other formed store)
+                (lacks attempt.refused (scene_of formed store) (effect_in other formed store)) formed
                 new) same did.did);
-            logs = subst (λ (a : Asked). KeepsLogsWithin a.records l.grants new.grants trial.slot)
+            logs = subst (λ (a : Asked). KeepsLogsWithin a.records l.grants new.grants attempt.slot)
                 same did.logs;
           });
       good = acts.good;
@@ -271,18 +271,18 @@ module _ (l : Lent) (more names : List (List ℕ)) (are : names ≡ l.names ++ m
     module _ (store : Store) (scene : Scene) (output : List ℕ) (needs : Asked) (new : Lent) where
       unmade_reason : (lacking : Bool) (reason : Reason)
           → IsReason (needs_as needs (scene_of formed store) (makes scene output) lacking)
-          trial.slot formed new reason
-          → IsReason (needs_as needs (scene_of l store) (makes scene output) lacking) trial.slot l
+          attempt.slot formed new reason
+          → IsReason (needs_as needs (scene_of l store) (makes scene output) lacking) attempt.slot l
           (without new) reason
       unmade_reason true reason why =
-          refused_more needs.scratch trial.slot _ _ l (without new) reason
+          refused_more needs.scratch attempt.slot _ _ l (without new) reason
           (fewer_formed scene.names) (why_there reason why)
         where
           why_there : (reason : Reason)
               → IsReason (needs_of_refused needs.scratch
-              (names_formed (scene_of formed store) scene)) trial.slot formed new reason
+              (names_formed (scene_of formed store) scene)) attempt.slot formed new reason
               → IsReason (needs_of_refused needs.scratch
-              (names_formed (scene_of formed store) scene)) trial.slot l (without new) reason
+              (names_formed (scene_of formed store) scene)) attempt.slot l (without new) reason
           why_there LogFull w = w
           why_there LogClosed w = w
           why_there (NeedSpace words) w = w
@@ -297,21 +297,21 @@ module _ (l : Lent) (more names : List (List ℕ)) (are : names ≡ l.names ++ m
 
     unmade_as : (store : Store) (effect : Effect) (needs : Asked) (reason : Reason) (new : Lent)
         → ActsAs (needs_as needs (scene_of formed store) effect
-        (lacks trial.refused (scene_of formed store) effect)) trial.slot (scene_of formed store)
-        (Err (NotMade reason)) effect (lacks trial.refused (scene_of formed store) effect) formed
+        (lacks attempt.refused (scene_of formed store) effect)) attempt.slot (scene_of formed store)
+        (Err (NotMade reason)) effect (lacks attempt.refused (scene_of formed store) effect) formed
         new
         → ActsAs (needs_as needs (scene_of l store) effect
-        (lacks trial.refused (scene_of l store) effect)) trial.slot (scene_of l store)
-        (Err (NotMade reason)) effect (lacks trial.refused (scene_of l store) effect) l
+        (lacks attempt.refused (scene_of l store) effect)) attempt.slot (scene_of l store)
+        (Err (NotMade reason)) effect (lacks attempt.refused (scene_of l store) effect) l
         (without new)
     unmade_as store (makes scene output) needs reason new did =
-        by (lacks_room trial.refused store scene.store) did
+        by (lacks_room attempt.refused store scene.store) did
       where
         by : (lacking : Bool)
             → ActsAs (needs_as needs (scene_of formed store) (makes scene output) lacking)
-            trial.slot (scene_of formed store) (Err (NotMade reason)) (makes scene output) lacking
+            attempt.slot (scene_of formed store) (Err (NotMade reason)) (makes scene output) lacking
             formed new
-            → ActsAs (needs_as needs (scene_of l store) (makes scene output) lacking) trial.slot
+            → ActsAs (needs_as needs (scene_of l store) (makes scene output) lacking) attempt.slot
             (scene_of l store) (Err (NotMade reason)) (makes scene output) lacking l (without new)
         by true it = (
           unmade_reason store scene output needs new true reason it.0,
@@ -326,23 +326,23 @@ module _ (l : Lent) (more names : List (List ℕ)) (are : names ≡ l.names ++ m
     unmade_as store (calls deed) needs reason new did = absurd did
 
     pub unmade_acts : IsGood l → (reason : Reason) (new : Lent)
-        → Acts others other trial (Err (NotMade reason)) formed new
-        → Acts asks row trial (Err (NotMade reason)) l (record new { names = l.names })
+        → Acts others other attempt (Err (NotMade reason)) formed new
+        → Acts asks row attempt (Err (NotMade reason)) l (record new { names = l.names })
     unmade_acts good reason new acts = record {
       meets = λ store shown.
           let did = acts.meets store (formed_left store shown).shown in
           let same = asked store shown in
-          meets_by asks trial (scene_of l store) l (without new) (Err (NotMade reason))
+          meets_by asks attempt (scene_of l store) l (without new) (Err (NotMade reason))
           (effect_in row l store) (effect_in other formed store) (effects store shown)
           (record {
             did = unmade_as store (effect_in other formed store) (asks (scene_of l store)) reason
                 new
                 (subst (λ (a : Asked). ActsAs (needs_as a (scene_of formed store)
                 (effect_in other formed store)
-                (lacks trial.refused (scene_of formed store) (effect_in other formed store)))
-                trial.slot (scene_of formed store) (Err (NotMade reason))
+                (lacks attempt.refused (scene_of formed store) (effect_in other formed store)))
+                attempt.slot (scene_of formed store) (Err (NotMade reason))
                 (effect_in other formed store)
-                (lacks trial.refused (scene_of formed store) (effect_in other formed store)) formed
+                (lacks attempt.refused (scene_of formed store) (effect_in other formed store)) formed
                 new) same did.did);
             logs = did.logs;
           });

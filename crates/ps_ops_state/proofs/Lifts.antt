@@ -25,7 +25,7 @@ use Rattle.ps_ops_control.specs.Turns.{cause_of}
 use Rattle.ps_ops_control.specs.Controls as controls
 use Rattle.ps_ops_control.specs.Controls.{Controls, ControlsAs}
 use Rattle.ps_ops_state.specs.declared.breaks.Break.TheVariants.{Unwinds}
-use Rattle.ps_ops_state.specs.declared.lent.Trial.{Trial}
+use Rattle.ps_ops_state.specs.declared.lent.Attempt.{Attempt}
 use Rattle.ps_ops_state.specs.Breaks.{made}
 use Rattle.ps_ops_state.specs.Lent.{Lent, scene_of, IsShown, IsErrorDictionary, IsGood}
 use Rattle.ps_ops_state.specs.Acts.{nothing_asked, Lasts, IsLeft, Meets, Acts, over}
@@ -132,28 +132,28 @@ pub under_first : (row : Store → List Value → Outcome (List Value)) (result 
 under_first row result h before after did =
     record { meets = λ names store met. did.meets names store }
 
-module _ (l : Lent) (good : IsGood l) (trial : Trial) (after : List Word) where
+module _ (l : Lent) (good : IsGood l) (attempt : Attempt) (after : List Word) where
   observed_as : (result : Result Unit ErrorName) (outcome : Outcome (List Value)) (store : Store)
       → IsShown l store → ObservesAs result outcome l.names store l.heap l.operands after
-      → Meets nothing_asked (operands_effect (scene_of l store) outcome) trial (made result)
+      → Meets nothing_asked (operands_effect (scene_of l store) outcome) attempt (made result)
       (scene_of l store) l (over l l.heap l.grants after)
   observed_as (Ok _) (leaves operands) store shown did =
-      made_meets nothing_asked trial (scene_of l store) l (over l l.heap l.grants after)
-      (record (scene_of l store) { operands = operands }) [] (lacks_for_same trial.refused store)
+      made_meets nothing_asked attempt (scene_of l store) l (over l l.heap l.grants after)
+      (record (scene_of l store) { operands = operands }) [] (lacks_for_same attempt.refused store)
       (changed_left l good l.heap l.grants after (keeps-same l.heap) store store (lasts-same store)
       shown shown.shows did.1 operands did.0) (sym (append-nil l.printed))
-      (logs-same 0 l.grants trial.slot)
+      (logs-same 0 l.grants attempt.slot)
   observed_as (Ok _) (fails raised) store shown did = absurd did
   observed_as (Err error) (leaves operands) store shown did = absurd did
   observed_as (Err error) (fails raised) store shown did =
       record {
         did = (did.0, ap (over l l.heap l.grants) did.1);
-        logs = logs-same 0 l.grants trial.slot;
+        logs = logs-same 0 l.grants attempt.slot;
       }
 
   observed_here : (row : Store → List Value → Outcome (List Value)) (result : Result Unit ErrorName)
       → ObservesMet row result l.heap l.operands after → IsReady l.heap after
-      → Acts nothing_asked (reading_row row) trial (made result) l (over l l.heap l.grants after)
+      → Acts nothing_asked (reading_row row) attempt (made result) l (over l l.heap l.grants after)
   observed_here row result did ready = record {
     meets = λ store shown.
         observed_as result (row store (values_in l.heap l.names l.operands)) store shown
@@ -161,31 +161,31 @@ module _ (l : Lent) (good : IsGood l) (trial : Trial) (after : List Word) where
     good = changed_good l good l.heap l.grants after (keeps-same l.heap) ready;
     keeps = keeps-same l.heap;
     stays = stays_as l _ refl refl refl refl (omega arith) (at_least-same _);
-    logs = logs-same _ l.grants trial.slot;
+    logs = logs-same _ l.grants attempt.slot;
     framed = made_framed _ result (unframed _ refl result);
   }
 
 -- an operator that reads acts
-pub observes_acts : (l : Lent) → IsGood l → (trial : Trial)
+pub observes_acts : (l : Lent) → IsGood l → (attempt : Attempt)
     (row : Store → List Value → Outcome (List Value)) (result : Result Unit ErrorName) (new : Heap)
     (left : Grants) (after : List Word) → new ≡ l.heap → left ≡ l.grants
     → Observes row result l.heap l.operands after → IsReady l.heap after
-    → Acts nothing_asked (reading_row row) trial (made result) l (over l new left after)
-observes_acts l good trial row result new left after same kept did ready =
-    subst (λ h. Acts nothing_asked (reading_row row) trial (made result) l (over l h left after))
+    → Acts nothing_asked (reading_row row) attempt (made result) l (over l new left after)
+observes_acts l good attempt row result new left after same kept did ready =
+    subst (λ h. Acts nothing_asked (reading_row row) attempt (made result) l (over l h left after))
     (sym same)
-    (subst (λ g. Acts nothing_asked (reading_row row) trial (made result) l (over l l.heap g after))
+    (subst (λ g. Acts nothing_asked (reading_row row) attempt (made result) l (over l l.heap g after))
     (sym kept)
-    (observed_here l good trial after row result
+    (observed_here l good attempt after row result
     (under_first row result l.heap l.operands after did) ready))
 
 -- one that reads no store
-pub operands_acts : (l : Lent) → IsGood l → (trial : Trial)
+pub operands_acts : (l : Lent) → IsGood l → (attempt : Attempt)
     (row : List Value → Outcome (List Value)) (result : Result Unit ErrorName) (after : List Word)
     → ObservesMet (λ store. row) result l.heap l.operands after → IsReady l.heap after
-    → Acts nothing_asked (operand_row row) trial (made result) l (over l l.heap l.grants after)
-operands_acts l good trial row result after did ready =
-    let acts = observed_here l good trial after (λ store. row) result did ready in
+    → Acts nothing_asked (operand_row row) attempt (made result) l (over l l.heap l.grants after)
+operands_acts l good attempt row result after did ready =
+    let acts = observed_here l good attempt after (λ store. row) result did ready in
     record {
       meets = acts.meets;
       good = acts.good;
@@ -196,12 +196,12 @@ operands_acts l good trial row result after did ready =
     }
 
 -- one on operands alone, whatever the memory
-pub does_acts : (l : Lent) → IsGood l → (trial : Trial) (row : List Value → Outcome (List Value))
+pub does_acts : (l : Lent) → IsGood l → (attempt : Attempt) (row : List Value → Outcome (List Value))
     (result : Result Unit ErrorName) (after : List Word) → Does row result l.operands after
     → AreFrom l.operands after
-    → Acts nothing_asked (operand_row row) trial (made result) l (over l l.heap l.grants after)
-does_acts l good trial row result after did from =
-    operands_acts l good trial row result after
+    → Acts nothing_asked (operand_row row) attempt (made result) l (over l l.heap l.grants after)
+does_acts l good attempt row result after did from =
+    operands_acts l good attempt row result after
     (under_first (λ store. row) result l.heap l.operands after
     (does_observes row result l.heap l.operands after did from))
     (ready_from l.heap l.operands after (held good) from)
@@ -209,7 +209,7 @@ does_acts l good trial row result after did from =
 -- ---- operators that push frames
 
 module _ (l : Lent) (good : IsGood l) (operands : List Word) (frames : List Frame)
-    (trial : Trial) where
+    (attempt : Attempt) where
   abbrev with_stacks : Lent
   with_stacks = record l { operands = operands; frames = frames }
 
@@ -217,13 +217,13 @@ module _ (l : Lent) (good : IsGood l) (operands : List Word) (frames : List Fram
       → IsShown l store
       → ControlsAs result outcome l.heap l.names store (values_in l.heap l.names l.dictionaries)
       (controls.stacks l.operands l.frames) (controls.stacks operands frames)
-      → Meets nothing_asked (effect_by quiet outcome) trial (made result) (scene_of l store) l
+      → Meets nothing_asked (effect_by quiet outcome) attempt (made result) (scene_of l store) l
       with_stacks
   controlled_as (Ok _) (leaves scene) store shown did =
-      subst (λ (s : Scene). Meets nothing_asked (quiet s) trial (Ok tt) (scene_of l store) l
+      subst (λ (s : Scene). Meets nothing_asked (quiet s) attempt (Ok tt) (scene_of l store) l
       with_stacks) did.0
-      (made_meets nothing_asked trial (scene_of l store) l with_stacks (scene_of with_stacks store) []
-      (lacks_for_same trial.refused store)
+      (made_meets nothing_asked attempt (scene_of l store) l with_stacks (scene_of with_stacks store) []
+      (lacks_for_same attempt.refused store)
       (record {
         is = refl;
         shown = record {
@@ -234,7 +234,7 @@ module _ (l : Lent) (good : IsGood l) (operands : List Word) (frames : List Fram
         };
         lasts = lasts-same store;
       })
-      (sym (append-nil l.printed)) (logs-same 0 l.grants trial.slot))
+      (sym (append-nil l.printed)) (logs-same 0 l.grants attempt.slot))
   controlled_as (Ok _) (fails raised) store shown did = absurd did
   controlled_as (Err error) (leaves scene) store shown did = absurd did
   controlled_as (Err error) (fails raised) store shown did = record {
@@ -243,13 +243,13 @@ module _ (l : Lent) (good : IsGood l) (operands : List Word) (frames : List Fram
       ap (λ (s : controls.Stacks). record l
           { operands = s.operands; frames = s.frames }) did.1,
     );
-    logs = logs-same 0 l.grants trial.slot;
+    logs = logs-same 0 l.grants attempt.slot;
   }
 
   pub controls_acts : (row : List Value → Scene → Outcome Scene) (result : Result Unit ErrorName)
       → Controls row result l.heap (length l.program) (controls.stacks l.operands l.frames)
       (controls.stacks operands frames) → OnErr result (frames ≡ l.frames)
-      → Acts nothing_asked (scene_row (scene_effect row)) trial (made result) l with_stacks
+      → Acts nothing_asked (scene_row (scene_effect row)) attempt (made result) l with_stacks
   controls_acts row result did framed = record {
     meets = λ store shown.
         controlled_as result (row (scene_of l store).operands (scene_of l store)) store shown
@@ -267,25 +267,25 @@ module _ (l : Lent) (good : IsGood l) (operands : List Word) (frames : List Fram
     };
     keeps = keeps-same l.heap;
     stays = stays_as l _ refl refl refl refl (omega arith) (at_least-same _);
-    logs = logs-same _ l.grants trial.slot;
+    logs = logs-same _ l.grants attempt.slot;
     framed = made_framed _ result framed;
   }
 
 -- ---- operators that begin an unwinding
 
-pub unwinds_acts : (l : Lent) → IsGood l → (trial : Trial) (effect : Scene → Effect) (cause : Cause)
+pub unwinds_acts : (l : Lent) → IsGood l → (attempt : Attempt) (effect : Scene → Effect) (cause : Cause)
     → ((store : Store) → effect (scene_of l store) ≡ unwinds (cause_of cause) (scene_of l store))
-    → Acts nothing_asked (scene_row effect) trial (Err (Unwinds cause)) l l
-unwinds_acts l good trial effect cause is = record {
+    → Acts nothing_asked (scene_row effect) attempt (Err (Unwinds cause)) l l
+unwinds_acts l good attempt effect cause is = record {
   meets = λ store shown.
-      meets_by nothing_asked trial (scene_of l store) l l (Err (Unwinds cause)) _ _ (is store)
-      (unwound_meets nothing_asked trial (scene_of l store) l l cause (scene_of l store)
+      meets_by nothing_asked attempt (scene_of l store) l l (Err (Unwinds cause)) _ _ (is store)
+      (unwound_meets nothing_asked attempt (scene_of l store) l l cause (scene_of l store)
       (record { is = refl; shown = shown; lasts = lasts-same store }) refl
-      (logs-same 0 l.grants trial.slot));
+      (logs-same 0 l.grants attempt.slot));
   good = good;
   keeps = keeps-same l.heap;
   stays = stays_as l l refl refl refl refl (omega arith) (at_least-same _);
-  logs = logs-same _ l.grants trial.slot;
+  logs = logs-same _ l.grants attempt.slot;
   framed = refl;
 }
 

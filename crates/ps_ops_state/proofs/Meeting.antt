@@ -18,7 +18,7 @@ use Rattle.ps_ops_control.specs.declared.frames.Cause.{Cause}
 use Rattle.ps_ops_control.specs.Turns.{cause_of}
 use Rattle.ps_ops_state.specs.declared.breaks.Break.{Break}
 use Rattle.ps_ops_state.specs.declared.breaks.Break.TheVariants.{Unwinds, Raises, NotMade}
-use Rattle.ps_ops_state.specs.declared.lent.Trial.{Trial}
+use Rattle.ps_ops_state.specs.declared.lent.Attempt.{Attempt}
 use Rattle.ps_ops_state.specs.Lent.{Lent, Rooms, rooms_of}
 use Rattle.ps_ops_state.specs.Acts.{Needs, needs_as, needs_between, LacksRooms, IsReason, Lasts, IsLeft, IsSame, IsRefused}
 use Rattle.ps_ops_state.specs.Acts.{ActsAs, IsAtLeast, Stays, Meets, Asked}
@@ -201,60 +201,60 @@ lacks_for_same refused s = lacks_nothing refused s s (made-same s)
 
 -- ---- by the effect
 
-module _ (asks : Scene → Asked) (trial : Trial) (before : Scene) (old new : Lent) where
+module _ (asks : Scene → Asked) (attempt : Attempt) (before : Scene) (old new : Lent) where
   abbrev Did : Effect → Result Unit Break → Bool → Type 0
   Did effect result lacking =
-      ActsAs (needs_as (asks before) before effect lacking) trial.slot before result effect
+      ActsAs (needs_as (asks before) before effect lacking) attempt.slot before result effect
       lacking old new
 
   abbrev Logs : ℕ → Type 0
-  Logs most = KeepsLogsWithin most old.grants new.grants trial.slot
+  Logs most = KeepsLogsWithin most old.grants new.grants attempt.slot
 
   module _ (scene : Scene) (output : List ℕ) where
     -- not made, whether there is room or not
     pub unmade_meets : (reason : Reason)
         → IsReason (needs_as (asks before) before (makes scene output)
-        (lacks_room trial.refused before.store scene.store)) trial.slot old new reason
+        (lacks_room attempt.refused before.store scene.store)) attempt.slot old new reason
         → IsSame old new → Logs 0
-        → Meets asks (makes scene output) trial (Err (NotMade reason)) before old new
+        → Meets asks (makes scene output) attempt (Err (NotMade reason)) before old new
     unmade_meets reason why same logs = record { did = (why, same); logs = logs }
 
-    module _ (enough : lacks_room trial.refused before.store scene.store ≡ false) where
+    module _ (enough : lacks_room attempt.refused before.store scene.store ≡ false) where
       pub made_meets : IsLeft before.store new scene → new.printed ≡ old.printed ++ output
-          → Logs (asks before).records → Meets asks (makes scene output) trial (Ok tt) before old new
+          → Logs (asks before).records → Meets asks (makes scene output) attempt (Ok tt) before old new
       made_meets left printed logs = record {
         did = subst (Did (makes scene output) (Ok tt)) (sym enough) (left, printed);
         logs = logs;
       }
 
       pub wanting_meets : (reason : Reason)
-          → IsReason (needs_between (asks before) before scene output) trial.slot old new reason
+          → IsReason (needs_between (asks before) before scene output) attempt.slot old new reason
           → IsSame old new → Logs 0
-          → Meets asks (makes scene output) trial (Err (NotMade reason)) before old new
+          → Meets asks (makes scene output) attempt (Err (NotMade reason)) before old new
       wanting_meets reason why same logs = record {
         did = subst (Did (makes scene output) (Err (NotMade reason))) (sym enough) (why, same);
         logs = logs;
       }
 
-    pub refused_meets : lacks_room trial.refused before.store scene.store ≡ true
-        → IsRefused trial.slot before old new scene.names → Logs 0
-        → Meets asks (makes scene output) trial (Err (Raises VmError)) before old new
+    pub refused_meets : lacks_room attempt.refused before.store scene.store ≡ true
+        → IsRefused attempt.slot before old new scene.names → Logs 0
+        → Meets asks (makes scene output) attempt (Err (Raises VmError)) before old new
     refused_meets lacking refused logs = record {
       did = subst (Did (makes scene output) (Err (Raises VmError))) (sym lacking) (refl, refused);
       logs = logs;
     }
 
   pub raised_meets : (error : ErrorName) → IsSame old new → Logs 0
-      → Meets asks (raises error) trial (Err (Raises error)) before old new
+      → Meets asks (raises error) attempt (Err (Raises error)) before old new
   raised_meets error same logs = record { did = (refl, same); logs = logs }
 
   pub unwound_meets : (cause : Cause) (scene : Scene) → IsLeft before.store new scene
       → IsSame old new → Logs 0
-      → Meets asks (unwinds (cause_of cause) scene) trial (Err (Unwinds cause)) before old new
+      → Meets asks (unwinds (cause_of cause) scene) attempt (Err (Unwinds cause)) before old new
   unwound_meets cause scene left same logs = record { did = (refl, left, same); logs = logs }
 
   pub meets_by : (result : Result Unit Break) (effect other : Effect) → effect ≡ other
-      → Meets asks other trial result before old new
-      → Meets asks effect trial result before old new
+      → Meets asks other attempt result before old new
+      → Meets asks effect attempt result before old new
   meets_by result effect other is meets =
-      subst (λ (e : Effect). Meets asks e trial result before old new) (sym is) meets
+      subst (λ (e : Effect). Meets asks e attempt result before old new) (sym is) meets

@@ -16,7 +16,7 @@ use Rattle.ps_mem.specs.Shows.{IsValue, AreValues, IsWithin, AreWithin}
 use Rattle.ps_ops_operands.specs.Does.{DoesAs, Pushes}
 use Rattle.ps_ops_operands.specs.Changes.{values_in}
 use Rattle.ps_ops_state.specs.declared.breaks.Break.TheVariants.{Raises}
-use Rattle.ps_ops_state.specs.declared.lent.Trial.{Trial}
+use Rattle.ps_ops_state.specs.declared.lent.Attempt.{Attempt}
 use Rattle.ps_ops_state.specs.Breaks.{made}
 use Rattle.ps_ops_state.specs.Lent.{Lent, scene_of, IsShown, IsGood}
 use Rattle.ps_ops_state.specs.Acts.{Asked, effect_in, Acts}
@@ -34,12 +34,12 @@ module _ (row : Row) (l : Lent) where
       pub operands_within : AreWithin l.heap l.names store operands
       pub dictionaries_within : AreWithin l.heap l.names store dictionaries
 
-    pub stacked_acts : (asks : Scene → Asked) (trial : Trial) → IsGood l
+    pub stacked_acts : (asks : Scene → Asked) (attempt : Attempt) → IsGood l
         → AreValues l.heap operands → AreValues l.heap dictionaries
         → ((store : Store) → IsShown l store → Stacks store)
-        → Acts asks row trial (Ok tt) l stacked
-    stacked_acts asks trial good operands_held dictionaries_held stacks =
-        left_acts row trial asks l good stacked
+        → Acts asks row attempt (Ok tt) l stacked
+    stacked_acts asks attempt good operands_held dictionaries_held stacks =
+        left_acts row attempt asks l good stacked
         (record {
           sound = good.sound;
           operands = operands_held;
@@ -51,11 +51,11 @@ module _ (row : Row) (l : Lent) where
           empty = good.empty;
         })
         (keeps-same l.heap) (stays_as l _ refl refl refl refl (omega arith) (at_least-same _))
-        (logs-same _ l.grants trial.slot) λ store shown. record {
+        (logs-same _ l.grants attempt.slot) λ store shown. record {
           after = store;
           output = [];
           is = (stacks store shown).is;
-          enough = lacks_for_same trial.refused store;
+          enough = lacks_for_same attempt.refused store;
           shown = record {
             shows = shown.shows;
             operands = (stacks store shown).operands_within;
@@ -64,7 +64,7 @@ module _ (row : Row) (l : Lent) where
           };
           lasts = lasts-same store;
           printed = sym (append-nil l.printed);
-          logs = logs-same _ l.grants trial.slot;
+          logs = logs-same _ l.grants attempt.slot;
         }
 
   -- ---- a word is pushed
@@ -89,15 +89,15 @@ module _ (row : Row) (l : Lent) where
     full_is error store (leaves left) after did = absurd did
     full_is error store (fails raised) after did = ap raises (sym did.0)
 
-    pub pushed_acts : (asks : Scene → Asked) (trial : Trial) → IsGood l → IsValue l.heap w
+    pub pushed_acts : (asks : Scene → Asked) (attempt : Attempt) → IsGood l → IsValue l.heap w
         → (result : Result Unit ErrorName) (after : List Word) → Pushes w result l.operands after
         → ((store : Store) → IsShown l store → PushesIn store)
         → OnOk result (after ≡ w ∷ l.operands) → OnErr result (after ≡ l.operands)
-        → Acts asks row trial (made result) l (record l { operands = after })
-    pushed_acts asks trial good held (Ok _) after pushes each pushed full =
-        subst (λ (ws : List Word). Acts asks row trial (Ok tt) l (record l { operands = ws }))
+        → Acts asks row attempt (made result) l (record l { operands = after })
+    pushed_acts asks attempt good held (Ok _) after pushes each pushed full =
+        subst (λ (ws : List Word). Acts asks row attempt (Ok tt) l (record l { operands = ws }))
         (sym pushed)
-        (stacked_acts (w ∷ l.operands) l.dictionaries asks trial good (held, good.operands)
+        (stacked_acts (w ∷ l.operands) l.dictionaries asks attempt good (held, good.operands)
         good.dictionaries λ store shown. record {
           is = (each store shown).is ∙ pushed_is store _
               (subst (DoesAs (Ok tt) _ (birth_at l.heap) l.names l.operands) pushed
@@ -105,10 +105,10 @@ module _ (row : Row) (l : Lent) where
           operands_within = ((each store shown).within, shown.operands);
           dictionaries_within = shown.dictionaries;
         })
-    pushed_acts asks trial good held (Err error) after pushes each pushed full =
+    pushed_acts asks attempt good held (Err error) after pushes each pushed full =
         subst (λ (ws : List Word).
-        Acts asks row trial (Err (Raises error)) l (record l { operands = ws })) (sym full)
-        (raised_acts row trial asks l good error λ store shown.
+        Acts asks row attempt (Err (Raises error)) l (record l { operands = ws })) (sym full)
+        (raised_acts row attempt asks l good error λ store shown.
         (each store shown).is ∙ full_is error store _ after
         (pushes.agrees (birth_at l.heap) l.names))
 

@@ -17,10 +17,10 @@ use Rattle.ps_ops_control.specs.Frames.{frames_in, AreFrames, IsFrameWithin, Are
 use Rattle.ps_ops_operands.specs.Changes.{KeepsLogsWithin}
 use Rattle.ps_ops_state.specs.declared.breaks.Break.{Break}
 use Rattle.ps_ops_state.specs.declared.breaks.Break.TheVariants.{Unwinds, Raises, NotMade}
-use Rattle.ps_ops_state.specs.declared.lent.Trial.{Trial}
+use Rattle.ps_ops_state.specs.declared.lent.Attempt.{Attempt}
 use Rattle.ps_ops_state.specs.Acts.{Asked, Needs, needs_as, lacks, IsLeft, IsSame, ActsAs, effect_in, Acts}
 use Rattle.ps_ops_state.specs.Lent.{Lent, scene_of, around_of, IsShown, IsGood}
-use Rattle.ps_ops_state.specs.Trials.{ordinary}
+use Rattle.ps_ops_state.specs.Attempts.{ordinary}
 use Rattle.ps_ops_state.specs.Unframed.{is_unframed, under, IsUndone}
 use Rattle.ps_ops_state.proofs.Kept.{frames-good, frames-same, frames-within}
 use Rattle.ps_ops_state.proofs.Meeting.{meets_by}
@@ -88,8 +88,8 @@ of_below : (P : Frame → Type 0) (above below : List Frame) → AllByRecursion 
 of_below P [] below all = all
 of_below P (frame ∷ above) below all = of_below P above below all.1
 
-module _ (above : List Frame) (l new : Lent) (asks : Scene → Asked) (row : Row) (trial : Trial)
-    (acts : Acts asks row trial (Ok tt) l new) (same : new.frames ≡ l.frames)
+module _ (above : List Frame) (l new : Lent) (asks : Scene → Asked) (row : Row) (attempt : Attempt)
+    (acts : Acts asks row attempt (Ok tt) l new) (same : new.frames ≡ l.frames)
     (good : IsGood (under above l)) where
   abbrev frames : List Frame
   frames = above ++ l.frames
@@ -139,21 +139,21 @@ module _ (above : List Frame) (l new : Lent) (asks : Scene → Asked) (row : Row
 
     did_under : (effect : Effect) (asked other : Asked)
         → ActsAs (needs_as asked (scene_of l store) effect
-        (lacks trial.refused (scene_of l store) effect)) trial.slot (scene_of l store) (Ok tt)
-        effect (lacks trial.refused (scene_of l store) effect) l new
+        (lacks attempt.refused (scene_of l store) effect)) attempt.slot (scene_of l store) (Ok tt)
+        effect (lacks attempt.refused (scene_of l store) effect) l new
         → ActsAs (needs_as other (scene_of (under above l) store) (reframed frames_there effect)
-        (lacks trial.refused (scene_of (under above l) store) (reframed frames_there effect))) trial.slot
+        (lacks attempt.refused (scene_of (under above l) store) (reframed frames_there effect))) attempt.slot
         (scene_of (under above l) store) (Ok tt) (reframed frames_there effect)
-        (lacks trial.refused (scene_of (under above l) store) (reframed frames_there effect))
+        (lacks attempt.refused (scene_of (under above l) store) (reframed frames_there effect))
         (under above l) after
     did_under (makes scene output) asked other did =
-        by (lacks_room trial.refused store scene.store) did
+        by (lacks_room attempt.refused store scene.store) did
       where
         by : (lacking : Bool)
-            → ActsAs (needs_as asked (scene_of l store) (makes scene output) lacking) trial.slot
+            → ActsAs (needs_as asked (scene_of l store) (makes scene output) lacking) attempt.slot
             (scene_of l store) (Ok tt) (makes scene output) lacking l new
             → ActsAs (needs_as other (scene_of (under above l) store)
-            (reframed frames_there (makes scene output)) lacking) trial.slot
+            (reframed frames_there (makes scene output)) lacking) attempt.slot
             (scene_of (under above l) store) (Ok tt) (reframed frames_there (makes scene output)) lacking
             (under above l) after
         by false done = (left_under store shown scene done.0, done.1)
@@ -179,18 +179,18 @@ module _ (above : List Frame) (l new : Lent) (asks : Scene → Asked) (row : Row
   acts_there : is_unframed row ≡ true
       → ((scene : Scene) (others : List world.Frame)
       → asks (record scene { frames = others }) ≡ asks scene)
-      → Acts asks row trial (Ok tt) (under above l) after
+      → Acts asks row attempt (Ok tt) (under above l) after
   acts_there unframed asked = record {
     meets = λ store shown.
         let met = acts.meets store (shown_below store shown) in
         let before = scene_of (under above l) store in
-        meets_by asks trial before (under above l) after (Ok tt)
+        meets_by asks attempt before (under above l) after (Ok tt)
         (effect_in row (under above l) store) (reframed (frames_there store shown) (effect_in row l store))
         (reframes (scene_of l store) (frames_there store shown) row unframed (around_of l))
         (record {
           did = did_under store shown (effect_in row l store) (asks (scene_of l store))
               (asks before) met.did;
-          logs = subst (λ (a : Asked). KeepsLogsWithin a.records l.grants new.grants trial.slot)
+          logs = subst (λ (a : Asked). KeepsLogsWithin a.records l.grants new.grants attempt.slot)
               (sym (asked (scene_of l store) (frames_there store shown))) met.logs;
         });
     good = after_good;
@@ -211,9 +211,9 @@ module _ (above : List Frame) (l new : Lent) (asks : Scene → Asked) (row : Row
   pub acts_under : is_unframed row ≡ true
       → ((scene : Scene) (others : List world.Frame)
       → asks (record scene { frames = others }) ≡ asks scene)
-      → Acts asks row trial (Ok tt) (under above l) (under above new)
+      → Acts asks row attempt (Ok tt) (under above l) (under above new)
   acts_under unframed asked =
-      subst (λ (fs : List Frame). Acts asks row trial (Ok tt) (under above l)
+      subst (λ (fs : List Frame). Acts asks row attempt (Ok tt) (under above l)
       (record new { frames = above ++ fs })) (sym same) (acts_there unframed asked)
 
 -- ---- nothing was done

@@ -17,7 +17,7 @@ use Rattle.ps_ops_operands.specs.Changes.{IsReasonFor}
 use Rattle.ps_ops_control.specs.Turns.{cause_of}
 use Rattle.ps_ops_state.specs.declared.breaks.Break.{Break}
 use Rattle.ps_ops_state.specs.declared.breaks.Break.TheVariants.{Unwinds, Raises, NotMade}
-use Rattle.ps_ops_state.specs.declared.lent.Trial.{Trial}
+use Rattle.ps_ops_state.specs.declared.lent.Attempt.{Attempt}
 use Rattle.ps_ops_state.specs.Lent.{Lent, Rooms, rooms_of, scene_of, around_of, IsShown, IsGood}
 
 -- ---- what is asked for
@@ -186,11 +186,11 @@ pub record Stays (old new : Lent) : Type 0 where
   pub scratch : IsAtLeast (rooms_of old.scratch) (rooms_of new.scratch)
 
 -- of a store that is shown: the effect came about, and by no more records than it asks for
-pub record Meets (asks : Scene → Asked) (effect : Effect) (trial : Trial)
+pub record Meets (asks : Scene → Asked) (effect : Effect) (attempt : Attempt)
     (result : Result Unit Break) (before : Scene) (old new : Lent) : Type 0 where
-  pub did : ActsAs (needs_as (asks before) before effect (lacks trial.refused before effect))
-      trial.slot before result effect (lacks trial.refused before effect) old new
-  pub logs : KeepsLogsWithin (spent result (asks before).records) old.grants new.grants trial.slot
+  pub did : ActsAs (needs_as (asks before) before effect (lacks attempt.refused before effect))
+      attempt.slot before result effect (lacks attempt.refused before effect) old new
+  pub logs : KeepsLogsWithin (spent result (asks before).records) old.grants new.grants attempt.slot
 
 -- the effect of a row on what a store shows
 abbrev pub effect_in : Row → Lent → Store → Effect
@@ -198,14 +198,14 @@ effect_in row l store = effect_of row (around_of l) (scene_of l store)
 
 -- For every store that the memory shows, the operator of this row did what the row says. What is
 -- lent stays good, what stood goes on standing, and the logs are kept
-pub record Acts (asks : Scene → Asked) (row : Row) (trial : Trial) (result : Result Unit Break)
+pub record Acts (asks : Scene → Asked) (row : Row) (attempt : Attempt) (result : Result Unit Break)
     (old new : Lent) : Type 0 where
   pub meets : (store : Store) → IsShown old store
-      → Meets asks (effect_in row old store) trial result (scene_of old store) old new
+      → Meets asks (effect_in row old store) attempt result (scene_of old store) old new
   pub good : IsGood new
   pub keeps : Keeps old.heap new.heap
   pub stays : Stays old new
-  pub logs : KeepsLogsWithin (spent result most_records) old.grants new.grants trial.slot
+  pub logs : KeepsLogsWithin (spent result most_records) old.grants new.grants attempt.slot
   -- an element that was taken can be put back
   pub framed : OnErr result (new.frames ≡ old.frames)
 

@@ -12,6 +12,7 @@ use Rattle.ps_ops_operands.specs.FirstNames.{BeginWithFirst}
 use Rattle.ps_ops_control.specs.declared.frames.Frame.{Frame}
 use Rattle.ps_ops_control.specs.Frames.{frames_in, AreFrames, AreFramesWithin}
 use Rattle.ps_ops_state.specs.declared.lent.Context.{Context}
+use Rattle.ps_ops_state.specs.declared.lent.Runtime.{Runtime}
 use Rattle.ps_ops_state.specs.declared.lent.Scratch.{Scratch}
 use Rattle.ps_ops_state.specs.declared.lent.Shared.{Shared}
 
@@ -45,6 +46,11 @@ lent heap grants context shared = record {
   room = shared.printed.room;
   scratch = shared.scratch;
 }
+
+-- of what all contexts share, with the memory's heap and grants
+abbrev pub lent_of : {M : Type 0} → (M → Heap) → (M → Grants) → Context → Runtime M → Lent
+lent_of heap grants context runtime =
+    lent (heap runtime.memory) (grants runtime.memory) context runtime.shared
 
 -- how much can be read before the lists for it grow: bytes, bytes that are sought, and words
 pub record Rooms : Type 0 where

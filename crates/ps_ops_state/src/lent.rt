@@ -41,9 +41,16 @@ pub struct Shared<'a> {
     pub scratch: Scratch,
 }
 
+/// What all contexts share: the memory, and what is beside it.
+#[derive(Drop)]
+pub struct Runtime<'a, M> {
+    pub shared: Shared<'a>,
+    pub memory: M,
+}
+
 /// How a step is tried.
 #[derive(Clone, Copy, Debug, PartialEq, Eq)]
-pub struct Trial {
+pub struct Attempt {
     /// Where records are logged.
     pub slot: Slot,
     /// Whether a step that asks for room raises `VMerror`.

@@ -25,7 +25,7 @@ use Rattle.ps_ops_operands.proofs.Operands.{first_two_split}
 use Rattle.ps_seq.proofs.CompareLemmas.{length_part}
 use Rattle.ps_ops_operands.proofs.Held.{first_of_two_held, second_held, rest_held}
 use Rattle.ps_ops_state.specs.declared.breaks.Break.TheVariants.{NotMade}
-use Rattle.ps_ops_state.specs.declared.lent.Trial.{Trial}
+use Rattle.ps_ops_state.specs.declared.lent.Attempt.{Attempt}
 use Rattle.ps_ops_state.specs.declared.lent.Scratch.{Scratch}
 use Rattle.ps_ops_state.specs.Lent.{Lent, rooms_of, IsEmpty, scene_of, IsShown, IsGood}
 use Rattle.ps_ops_state.specs.Acts.{Asked, IsAtLeast, effect_in, Acts}
@@ -99,7 +99,7 @@ text_reason LogClosed count text_room words_room slot asked left why = why
 text_reason (NeedSpace words) count text_room words_room slot asked left why = why
 text_reason Memory count text_room words_room slot asked left why = inr why
 
-module _ (l : Lent) (good : IsGood l) (trial : Trial) (target word : Word)
+module _ (l : Lent) (good : IsGood l) (attempt : Attempt) (target word : Word)
     (tops : Some (target, word) ≡ first_two_of l.operands) (part : Part)
     (part_is : as_string (value_of (birth_at l.heap) l.names target)
     ≡ Some (part_of (birth_at l.heap) part)) (may : is_writable part.access ≡ true) where
@@ -148,19 +148,19 @@ module _ (l : Lent) (good : IsGood l) (trial : Trial) (target word : Word)
 
   pub cvs_wants : ((store : Store) → IsShown l store → Fits store) → (grants : Grants)
       (scratch : Scratch) → IsAtLeast (rooms_of l.scratch) (rooms_of scratch) → IsEmpty scratch
-      → KeepsLogsWithin 0 l.grants grants trial.slot → (reason : Reason)
+      → KeepsLogsWithin 0 l.grants grants attempt.slot → (reason : Reason)
       → ((store : Store) → IsShown l store → IsStoreReason Strings (length (text store)) l.scratch
-      trial.slot l.grants grants reason)
-      → Acts cvs_asks (changing_row cvs_row) trial (Err (NotMade reason)) l
+      attempt.slot l.grants grants reason)
+      → Acts cvs_asks (changing_row cvs_row) attempt (Err (NotMade reason)) l
       (record l { grants = grants; scratch = scratch })
   cvs_wants fits grants scratch least empty logs reason why =
-      wanting_acts (changing_row cvs_row) trial cvs_asks l good grants l.room scratch (omega arith)
+      wanting_acts (changing_row cvs_row) attempt cvs_asks l good grants l.room scratch (omega arith)
       least empty logs reason λ store shown. record {
         scene = record (scene_of l store) { operands = left store; store = later store };
         output = [];
         is = cvs_is store (fits store shown);
-        enough = lacks_nothing trial.refused store (later store) (unasked store);
-        why = store_reason l (record l { grants = grants; scratch = scratch }) trial.slot _ Strings
+        enough = lacks_nothing attempt.refused store (later store) (unasked store);
+        why = store_reason l (record l { grants = grants; scratch = scratch }) attempt.slot _ Strings
             reason (length (text store))
             (ap (λ (asked : Asked). asked.records) (asks_is store))
             (ap (λ (asked : Asked). asked.scratch) (asks_is store)) (why store shown);
@@ -172,14 +172,14 @@ module _ (l : Lent) (good : IsGood l) (trial : Trial) (target word : Word)
       (scratch : Scratch) → IsAtLeast (rooms_of l.scratch) (rooms_of scratch) → IsEmpty scratch
       → Keeps l.heap new → IsSound new → (count : ℕ)
       → ((store : Store) → IsShown l store → length (text store) ≡ count)
-      → KeepsLogsWithin (min 1 count) l.grants grants trial.slot
+      → KeepsLogsWithin (min 1 count) l.grants grants attempt.slot
       → ((store : Store) → IsShown l store
       → Shows new l.names (with_part_bytes store part_value 0 (text store)))
       → (front : Word) → IsValue l.heap front
       → value front ≡ with_part (value target) (part_at part_value 0 count)
       → ((store : Store) → IsWithin (birth_at l.heap) l.names store target
       → IsWithin (birth_at l.heap) l.names store front)
-      → Acts cvs_asks (changing_row cvs_row) trial (Ok tt) l (record l {
+      → Acts cvs_asks (changing_row cvs_row) attempt (Ok tt) l (record l {
         heap = new;
         grants = grants;
         operands = front ∷ drop 2 l.operands;
@@ -187,9 +187,9 @@ module _ (l : Lent) (good : IsGood l) (trial : Trial) (target word : Word)
       })
   cvs_acts fits new grants scratch least empty keeps sound count is logs shows front held front_is
       front_within =
-      store_acts (changing_row cvs_row) trial cvs_asks l (front ∷ drop 2 l.operands) good
+      store_acts (changing_row cvs_row) attempt cvs_asks l (front ∷ drop 2 l.operands) good
       (held, rest_held (IsValue l.heap) l.operands good.operands 2) new grants scratch keeps sound
-      least empty (logs_more _ most_records l.grants grants trial.slot (few count) logs)
+      least empty (logs_more _ most_records l.grants grants attempt.slot (few count) logs)
       λ store shown.
       let inside = first_of_two_held (IsWithin (birth_at l.heap) l.names store) l.operands
       shown.operands target word tops in
@@ -211,7 +211,7 @@ module _ (l : Lent) (good : IsGood l) (trial : Trial) (target word : Word)
           front_within store inside,
           rest_held (IsWithin (birth_at l.heap) l.names store) l.operands shown.operands 2,
         );
-        logs = subst (λ (n : ℕ). KeepsLogsWithin n l.grants grants trial.slot)
+        logs = subst (λ (n : ℕ). KeepsLogsWithin n l.grants grants attempt.slot)
             (ap (min 1) (sym long)
             ∙ sym (ap (λ (asked : Asked). asked.records) (asks_is store))) logs;
       }

@@ -26,7 +26,7 @@ use Rattle.ps_ops_operands.proofs.Operands.{first_split}
 use Rattle.ps_ops_operands.proofs.Held.{first_held, rest_held}
 use Rattle.ps_ops_types.proofs.First.{name_held}
 use Rattle.ps_ops_types.proofs.Attributed.{attributed_value, attributed_held, attributed_within, attribute_of}
-use Rattle.ps_ops_state.specs.declared.lent.Trial.{Trial}
+use Rattle.ps_ops_state.specs.declared.lent.Attempt.{Attempt}
 use Rattle.ps_ops_state.specs.Lent.{Lent, scene_of, IsShown, IsGood}
 use Rattle.ps_ops_state.specs.Acts.{nothing_asked, effect_in, Acts}
 use Rattle.ps_ops_state.proofs.Forming.{formed_acts, formed_good, formed_left}
@@ -119,7 +119,7 @@ module _ (l : Lent) (x : Word) (top : Some x ≡ first_of l.operands) where
 
       -- ---- it is left
 
-      module _ (good : IsGood l) (trial : Trial) (may : is_readable part.access ≡ true)
+      module _ (good : IsGood l) (attempt : Attempt) (may : is_readable part.access ≡ true)
           (key : Key) (are : IsKeyOf l.heap l.names x key) (done : IsForming l.names key (Ok tt))
           (same : names ≡ names_with l.names key)
           (distinct : AllPairs (λ one later. one ≢ later) names) (w : Word)
@@ -183,13 +183,13 @@ module _ (l : Lent) (x : Word) (top : Some x ≡ first_of l.operands) where
               { operands = values_in l.heap names operands }))
               (sym (formed_left l more names names_are store shown).is))))
 
-          pub cvn_acts : Acts nothing_asked (naming_row cvn_row) trial (Ok tt) l
+          pub cvn_acts : Acts nothing_asked (naming_row cvn_row) attempt (Ok tt) l
               (record l { operands = operands; names = names })
           cvn_acts =
               formed_acts l more names names_are (naming_row cvn_row) other nothing_asked
-              nothing_asked trial effects (λ store shown. refl) _
+              nothing_asked attempt effects (λ store shown. refl) _
               (stacked_acts other (record l { names = names }) operands l.dictionaries nothing_asked
-              trial (formed_good l more names names_are good distinct) (
+              attempt (formed_good l more names names_are good distinct) (
                 held,
                 rest_held (IsValue l.heap) l.operands good.operands 1,
               ) good.dictionaries λ store shown. record {

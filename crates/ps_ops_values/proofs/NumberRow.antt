@@ -24,7 +24,7 @@ use Rattle.ps_ops_operands.proofs.Ready.{plain_within}
 use Rattle.ps_scan.specs.declared.firsts.NumberFault.{NumberFault}
 use Rattle.ps_scan.specs.declared.firsts.NumberFault.TheVariants.{NoNumber, Syntax, Limit}
 use Rattle.ps_scan.specs.Passed.{number_of}
-use Rattle.ps_ops_state.specs.declared.lent.Trial.{Trial}
+use Rattle.ps_ops_state.specs.declared.lent.Attempt.{Attempt}
 use Rattle.ps_ops_state.specs.Lent.{Lent, scene_of, IsShown}
 use Rattle.ps_ops_state.specs.Acts.{nothing_asked, effect_in}
 use Rattle.ps_ops_state.proofs.Direct.{LeavesWords}
@@ -111,11 +111,11 @@ module _ (l : Lent) (w : Word) (top : Some w ≡ first_of l.operands) where
       ≡ operands_effect (scene_of l store) (cvi_by scan store value value.what rest)
   cvi_is store = rw (first_split l.operands w top) refl
 
-  pub cvi_stays : is_some (as_integer value) ≡ true → (trial : Trial) (store : Store)
+  pub cvi_stays : is_some (as_integer value) ≡ true → (attempt : Attempt) (store : Store)
       → IsShown l store
-      → LeavesWords (reading_row (cvi_row scan)) trial nothing_asked l l.operands store
+      → LeavesWords (reading_row (cvi_row scan)) attempt nothing_asked l l.operands store
   unfolding as_integer
-  cvi_stays some trial store shown = record {
+  cvi_stays some attempt store shown = record {
     is = cvi_is store
         ∙ (ap (operands_effect (scene_of l store)) (by_integer store value rest value.what some)
         ∙ rw (first_split l.operands w top) refl);
@@ -157,12 +157,12 @@ module _ (l : Lent) (w : Word) (top : Some w ≡ first_of l.operands) where
           (scanned_is (scan (part_bytes store part) 0) rest
           ∙ ap (λ (r : Result ℤ NumberFault). number_outcome r rest) (sym (read store shown))))
 
-      pub cvi_left : (number : ℤ) → result ≡ Ok number → (trial : Trial) (r : Word) → IsPlain r
+      pub cvi_left : (number : ℤ) → result ≡ Ok number → (attempt : Attempt) (r : Word) → IsPlain r
           → ((births : ℕ → ℕ) (names : List (List ℕ)) → value_of births names r ≡ integer number)
           → (store : Store) → IsShown l store
-          → LeavesWords (reading_row (cvi_row scan)) trial nothing_asked l (r ∷ drop 1 l.operands)
+          → LeavesWords (reading_row (cvi_row scan)) attempt nothing_asked l (r ∷ drop 1 l.operands)
           store
-      cvi_left number is trial r plain means store shown = record {
+      cvi_left number is attempt r plain means store shown = record {
         is = cvi_read store shown ∙ rw (is, means (birth_at l.heap) l.names) refl;
         within = (
           plain_within (birth_at l.heap) l.names store r plain,

@@ -1,9 +1,8 @@
 -- What is printed, or why it isn't.
 use Rattle.std.proofs.Common.{◌≡◌, ℕ, ◌+◌, ◌-◌, ◌<◌, ◌≤◌, ◌++◌, arith, List, map, drop, length, true, false, Option}
 use Rattle.std.proofs.Common.{None, Some, refl, sym, ap, subst, ◌∙◌, inl}
-use Rattle.std.proofs.lemmas.Bool.Decides.{nat_tests}
-use Rattle.std.proofs.lemmas.List.{length-append, length-take, length-drop, take_all, reverse-reverse}
-use Rattle.std.specs.Prelude.{Vec, vec_capacity, take, reverse, slice_range, option_map}
+use Rattle.std.proofs.lemmas.List.{take_all, reverse-reverse}
+use Rattle.std.specs.Prelude.{take, reverse, option_map}
 use Rattle.std.specs.List.{flat_map, AllByRecursion}
 use Rattle.ps_language.specs.declared.errors.ErrorName.TheVariants.{StackUnderflow, TypeCheck, InvalidAccess}
 use Rattle.ps_language.specs.Value.{Value, Store}
@@ -24,7 +23,7 @@ use Rattle.ps_ops_operands.proofs.Held.{rest_held, all_reverse}
 use Rattle.ps_text.specs.declared.lines.Form.{Form}
 use Rattle.ps_text.specs.declared.lines.Form.TheVariants.{Plain, Full}
 use Rattle.ps_text.specs.Forms.{text_as}
-use Rattle.ps_ops_state.specs.declared.lent.Trial.{Trial}
+use Rattle.ps_ops_state.specs.declared.lent.Attempt.{Attempt}
 use Rattle.ps_ops_state.specs.Lent.{Lent, scene_of, IsShown, IsGood}
 use Rattle.ps_ops_state.specs.Acts.{nothing_asked, effect_in}
 use Rattle.ps_ops_values.specs.Stacks.{stack_row_as}
@@ -41,17 +40,17 @@ module _ (l : Lent) (row : Row) (taken : ℕ) (output : Store → List ℕ) wher
   Prints = (store : Store) → IsShown l store
       → effect_in row l store ≡ makes (scene_of taken_off store) (output store)
 
-  module _ (trial : Trial) (prints : Prints) where
+  module _ (attempt : Attempt) (prints : Prints) where
     pub prints_made : (printed : List ℕ) (room : ℕ)
         → ((store : Store) → IsShown l store → printed ≡ l.printed ++ output store)
         → (store : Store) → IsShown l store
-        → Made row trial nothing_asked l
+        → Made row attempt nothing_asked l
         (record l { operands = drop taken l.operands; printed = printed; room = room }) store
     prints_made printed room are store shown = record {
       after = store;
       output = output store;
       is = prints store shown;
-      enough = lacks_for_same trial.refused store;
+      enough = lacks_for_same attempt.refused store;
       shown = record {
         shows = shown.shows;
         operands =
@@ -61,19 +60,19 @@ module _ (l : Lent) (row : Row) (taken : ℕ) (output : Store → List ℕ) wher
       };
       lasts = lasts-same store;
       printed = are store shown;
-      logs = logs-same 0 l.grants trial.slot;
+      logs = logs-same 0 l.grants attempt.slot;
     }
 
     -- the output is longer than the room
     pub prints_wants : (room : ℕ)
         → ((store : Store) → IsShown l store → l.room < length (output store))
         → (store : Store) → IsShown l store
-        → Wants row trial nothing_asked l Memory (record l { room = room }) store
+        → Wants row attempt nothing_asked l Memory (record l { room = room }) store
     prints_wants room full store shown = record {
       scene = scene_of taken_off store;
       output = output store;
       is = prints store shown;
-      enough = lacks_for_same trial.refused store;
+      enough = lacks_for_same attempt.refused store;
       why = inl (full store shown);
     }
 

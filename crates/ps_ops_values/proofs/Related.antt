@@ -26,7 +26,7 @@ use Rattle.ps_ops_operands.proofs.Held.{first_of_two_held, second_held, rest_hel
 use Rattle.ps_ops_operands.proofs.Operands.{first_two_split}
 use Rattle.ps_ops_operands.proofs.Ready.{plain_value, plain_within}
 use Rattle.ps_ops_state.specs.declared.breaks.Break.TheVariants.{Raises}
-use Rattle.ps_ops_state.specs.declared.lent.Trial.{Trial}
+use Rattle.ps_ops_state.specs.declared.lent.Attempt.{Attempt}
 use Rattle.ps_ops_state.specs.Lent.{Lent, scene_of, IsShown, IsGood}
 use Rattle.ps_ops_state.specs.Acts.{nothing_asked, Acts}
 use Rattle.ps_ops_state.proofs.Acting.{raised_acts}
@@ -118,7 +118,7 @@ order_tested LessOrEqual = record {
 
 module _ {A : Type 0} (of : Store → (a b : Value) → Outcome A) (test : A → Bool)
     (row : Store → List Value → Outcome (List Value)) (tested : IsTested of test row) (l : Lent)
-    (good : IsGood l) (trial : Trial) where
+    (good : IsGood l) (attempt : Attempt) where
   short_is : (words : List Word) → None ≡ first_two_of words → (s : Store)
       → row s (values_in l.heap l.names words) ≡ fails StackUnderflow
   short_is [] none s = tested.none s
@@ -126,9 +126,9 @@ module _ {A : Type 0} (of : Store → (a b : Value) → Outcome A) (test : A →
   short_is (x ∷ y ∷ words) none s = absurd (cc)
 
   pub short_acts : None ≡ first_two_of l.operands
-      → Acts nothing_asked (reading_row row) trial (Err (Raises StackUnderflow)) l l
+      → Acts nothing_asked (reading_row row) attempt (Err (Raises StackUnderflow)) l l
   short_acts none =
-      raised_acts (reading_row row) trial nothing_asked l good StackUnderflow λ store shown.
+      raised_acts (reading_row row) attempt nothing_asked l good StackUnderflow λ store shown.
       ap (operands_effect (scene_of l store)) (short_is l.operands none store)
 
   module _ (right left : Word) (two : Some (right, left) ≡ first_two_of l.operands) where
@@ -150,19 +150,19 @@ module _ {A : Type 0} (of : Store → (a b : Value) → Outcome A) (test : A →
         (finds.agrees store shown.shows good.names within inside))
 
     pub failed_acts : (error : ErrorName) → Finds of (Err error) l.heap l.names left right
-        → Acts nothing_asked (reading_row row) trial (Err (Raises error)) l l
+        → Acts nothing_asked (reading_row row) attempt (Err (Raises error)) l l
     failed_acts error finds =
-        raised_acts (reading_row row) trial nothing_asked l good error λ store shown.
+        raised_acts (reading_row row) attempt nothing_asked l good error λ store shown.
         ap (operands_effect (scene_of l store)) (row_is (Err error) finds store shown)
 
     pub tested_acts : (found : A) → Finds of (Ok found) l.heap l.names left right
         → (w : Word) → IsPlain w
         → ((births : ℕ → ℕ) (names : List (List ℕ))
         → value_of births names w ≡ boolean (test found))
-        → Acts nothing_asked (reading_row row) trial (Ok tt) l
+        → Acts nothing_asked (reading_row row) attempt (Ok tt) l
         (record l { operands = w ∷ drop 2 l.operands })
     tested_acts found finds w plain means =
-        words_acts (reading_row row) trial nothing_asked l (w ∷ drop 2 l.operands) good (
+        words_acts (reading_row row) attempt nothing_asked l (w ∷ drop 2 l.operands) good (
           plain_value l.heap w plain,
           rest_held (IsValue l.heap) l.operands good.operands 2,
         ) λ store shown. record {

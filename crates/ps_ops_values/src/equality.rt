@@ -15,7 +15,7 @@ ghost use Rattle.ps_mem.specs.Shows.{IsSound, IsValue, IsWithin, Shows};
 ghost use Rattle.ps_ops_operands.specs.Kept.{AreFrom};
 ghost use Rattle.ps_ops_operands.specs.Changes.{Observes};
 ghost use Rattle.ps_ops_state.specs.Acts.{Acts, nothing_asked};
-ghost use Rattle.ps_ops_state.specs.Lent.{lent, IsGood};
+ghost use Rattle.ps_ops_state.specs.Lent.{lent_of, IsGood};
 ghost use Rattle.ps_ops_values.specs.Relations as relations;
 ghost use Rattle.ps_ops_values.specs.Relations.{Finds};
 
@@ -27,7 +27,7 @@ use ps_ops_operands::Operands;
 use ps_ops_operands::access::is_readable;
 use ps_ops_operands::plain::boolean;
 use ps_ops_state::breaks::Break;
-use ps_ops_state::lent::{Context, Shared, Trial};
+use ps_ops_state::lent::{Attempt, Context, Runtime};
 use ps_ops_strings::readers::string_of;
 use ps_seq::strings::compare_bytes;
 use ps_step_lookup::keys::read_key;
@@ -103,21 +103,19 @@ fn are_equal<M: Memory>(
 /// string that can't be read.
 pub fn equality<M: Memory>(
     context: &mut Context,
-    shared: &mut Shared,
-    memory: &mut M,
+    runtime: &mut Runtime<M>,
     wanted: bool,
 ) -> Result<(), Break>
-    requires good { IsGood
-        (lent (M.heap memory.old) (M.grants memory.old) context.old shared.old) }
-    ensures acts { (trial : Trial) → Acts nothing_asked
-        (reading_row (relations.equality_row_as wanted)) trial result
-        (lent (M.heap memory.old) (M.grants memory.old) context.old shared.old)
-        (lent (M.heap memory.new) (M.grants memory.new) context.new shared.new) }
+    requires good { IsGood (lent_of M.heap M.grants context.old runtime.old) }
+    ensures acts { (attempt : Attempt) → Acts nothing_asked
+        (reading_row (relations.equality_row_as wanted)) attempt result
+        (lent_of M.heap M.grants context.old runtime.old)
+        (lent_of M.heap M.grants context.new runtime.new) }
 {
     let Some((right, left)) = context.operands.top_two() else {
         return Err(Break::Raises(ErrorName::StackUnderflow));
     };
-    match are_equal(memory, &shared.names, left, right) {
+    match are_equal(&mut runtime.memory, &runtime.shared.names, left, right) {
         Ok(equal) => {
             context.operands.replace(2, boolean(equal == wanted));
             Ok(())

@@ -5,7 +5,7 @@ ghost use Rattle.ps_language.specs.Limits.{names_limit};
 ghost use Rattle.ps_language.specs.Rows.{naming_row};
 ghost use Rattle.ps_language.specs.RowsTypes.{cvn_row};
 ghost use Rattle.ps_ops_state.specs.Acts.{Acts, nothing_asked};
-ghost use Rattle.ps_ops_state.specs.Lent.{lent, IsGood};
+ghost use Rattle.ps_ops_state.specs.Lent.{lent_of, IsGood};
 ghost use Rattle.ps_step_lookup.specs.Keys.{word_in};
 ghost use Rattle.ps_ops_values.specs.Formed.{IsFormedWord};
 
@@ -13,7 +13,7 @@ use ps_language::errors::ErrorName;
 use ps_mem::Memory;
 use ps_ops_operands::access::is_readable;
 use ps_ops_state::breaks::Break;
-use ps_ops_state::lent::{Context, Shared, Trial};
+use ps_ops_state::lent::{Attempt, Context, Runtime};
 use ps_ops_strings::readers::string_of;
 use ps_step_lookup::keys::{Key, form_key, name_word, read_key};
 use ps_word::words::Word;
@@ -35,16 +35,11 @@ fn formed_word(key: &Key, count: usize) -> Word
 /// Raises `stackunderflow`, `typecheck` where `S` is no string, `invalidaccess`, and `limitcheck`
 /// where it is too long for a name or no more names may be met. Not made, by `Memory`, where the
 /// growth for a name is refused.
-pub fn cvn<M: Memory>(
-    context: &mut Context,
-    shared: &mut Shared,
-    memory: &mut M,
-) -> Result<(), Break>
-    requires good { IsGood
-        (lent (M.heap memory.old) (M.grants memory.old) context.old shared.old) }
-    ensures acts { (trial : Trial) → Acts nothing_asked (naming_row cvn_row) trial result
-        (lent (M.heap memory.old) (M.grants memory.old) context.old shared.old)
-        (lent (M.heap memory.new) (M.grants memory.new) context.new shared.new) }
+pub fn cvn<M: Memory>(context: &mut Context, runtime: &mut Runtime<M>) -> Result<(), Break>
+    requires good { IsGood (lent_of M.heap M.grants context.old runtime.old) }
+    ensures acts { (attempt : Attempt) → Acts nothing_asked (naming_row cvn_row) attempt result
+        (lent_of M.heap M.grants context.old runtime.old)
+        (lent_of M.heap M.grants context.new runtime.new) }
 {
     let Some(string) = context.operands.top() else {
         return Err(Break::Raises(ErrorName::StackUnderflow));
@@ -55,9 +50,9 @@ pub fn cvn<M: Memory>(
     if !is_readable(part.access) {
         return Err(Break::Raises(ErrorName::InvalidAccess));
     }
-    let key = read_key(memory, &shared.names, string);
-    let count = shared.names.len();
-    if let Err(fault) = form_key(&mut shared.names, &key) {
+    let key = read_key(&mut runtime.memory, &runtime.shared.names, string);
+    let count = runtime.shared.names.len();
+    if let Err(fault) = form_key(&mut runtime.shared.names, &key) {
         return Err(fault);
     }
     let name = formed_word(&key, count);

@@ -12,7 +12,7 @@ ghost use Rattle.ps_mem.specs.References.{StandsAs, words_for};
 ghost use Rattle.ps_mem.specs.Shows.{IsSound, Shows};
 ghost use Rattle.ps_scan.specs.Passed.{number_of};
 ghost use Rattle.ps_ops_state.specs.Acts.{Acts, nothing_asked};
-ghost use Rattle.ps_ops_state.specs.Lent.{lent, IsGood};
+ghost use Rattle.ps_ops_state.specs.Lent.{lent_of, IsGood};
 
 use ps_language::errors::ErrorName;
 use ps_language::kinds::Kind;
@@ -22,7 +22,7 @@ use ps_ops_operands::plain;
 use ps_ops_operands::ranges::SEQUENCE_LIMIT;
 use ps_ops_operands::readers::integer_of;
 use ps_ops_state::breaks::Break;
-use ps_ops_state::lent::{Context, Shared, Trial};
+use ps_ops_state::lent::{Attempt, Context, Runtime};
 use ps_ops_strings::readers::string_of;
 use ps_ops_strings::reads::read_bytes;
 use ps_scan::{NumberFault, first_number};
@@ -87,16 +87,12 @@ fn number_of_long_string<M: Memory>(memory: &mut M, part: Part) -> Result<i32, N
 /// Raises `stackunderflow`, `typecheck` where `x` is neither, or the first token of a string is no
 /// number or there is none, `invalidaccess`, and what the scanner raises: `syntaxerror`, and
 /// `limitcheck` of a number past 32 bits, a real, or another token that is too long.
-pub fn cvi<M: Memory>(
-    context: &mut Context,
-    shared: &mut Shared,
-    memory: &mut M,
-) -> Result<(), Break>
-    requires good { IsGood
-        (lent (M.heap memory.old) (M.grants memory.old) context.old shared.old) }
-    ensures acts { (trial : Trial) → Acts nothing_asked (reading_row (cvi_row scan)) trial result
-        (lent (M.heap memory.old) (M.grants memory.old) context.old shared.old)
-        (lent (M.heap memory.new) (M.grants memory.new) context.new shared.new) }
+pub fn cvi<M: Memory>(context: &mut Context, runtime: &mut Runtime<M>) -> Result<(), Break>
+    requires good { IsGood (lent_of M.heap M.grants context.old runtime.old) }
+    ensures acts { (attempt : Attempt) → Acts nothing_asked (reading_row (cvi_row scan)) attempt
+        result
+        (lent_of M.heap M.grants context.old runtime.old)
+        (lent_of M.heap M.grants context.new runtime.new) }
 {
     let Some(word) = context.operands.top() else {
         return Err(Break::Raises(ErrorName::StackUnderflow));
@@ -110,7 +106,7 @@ pub fn cvi<M: Memory>(
     if !is_readable(part.access) {
         return Err(Break::Raises(ErrorName::InvalidAccess));
     }
-    match number_of_string(memory, part) {
+    match number_of_string(&mut runtime.memory, part) {
         Ok(number) => {
             context.operands.replace(1, plain::integer(number));
             Ok(())

@@ -7,7 +7,7 @@ ghost use Rattle.ps_mem.specs.Shows.{IsSound, IsValue};
 ghost use Rattle.ps_ops_operands.specs.Kept.{AreFrom};
 ghost use Rattle.ps_ops_operands.specs.Changes.{Observes};
 ghost use Rattle.ps_ops_state.specs.Acts.{Acts, nothing_asked};
-ghost use Rattle.ps_ops_state.specs.Lent.{lent, IsGood};
+ghost use Rattle.ps_ops_state.specs.Lent.{lent_of, IsGood};
 ghost use Rattle.ps_ops_values.specs.Relations as relations;
 ghost use Rattle.ps_ops_values.specs.Relations.{Finds};
 
@@ -18,7 +18,7 @@ use ps_ops_operands::access::is_readable;
 use ps_ops_operands::plain::boolean;
 use ps_ops_operands::readers::integer_of;
 use ps_ops_state::breaks::Break;
-use ps_ops_state::lent::{Context, Shared, Trial};
+use ps_ops_state::lent::{Attempt, Context, Runtime};
 use ps_ops_strings::readers::string_of;
 use ps_seq::strings::compare_bytes;
 use ps_word::words::Word;
@@ -83,21 +83,19 @@ fn compare<M: Memory>(memory: &mut M, left: Word, right: Word) -> Result<Orderin
 /// of a string that can't be read.
 pub fn order<M: Memory>(
     context: &mut Context,
-    shared: &mut Shared,
-    memory: &mut M,
+    runtime: &mut Runtime<M>,
     relation: Relation,
 ) -> Result<(), Break>
-    requires good { IsGood
-        (lent (M.heap memory.old) (M.grants memory.old) context.old shared.old) }
-    ensures acts { (trial : Trial) → Acts nothing_asked
-        (reading_row (relations.order_row_as relation)) trial result
-        (lent (M.heap memory.old) (M.grants memory.old) context.old shared.old)
-        (lent (M.heap memory.new) (M.grants memory.new) context.new shared.new) }
+    requires good { IsGood (lent_of M.heap M.grants context.old runtime.old) }
+    ensures acts { (attempt : Attempt) → Acts nothing_asked
+        (reading_row (relations.order_row_as relation)) attempt result
+        (lent_of M.heap M.grants context.old runtime.old)
+        (lent_of M.heap M.grants context.new runtime.new) }
 {
     let Some((right, left)) = context.operands.top_two() else {
         return Err(Break::Raises(ErrorName::StackUnderflow));
     };
-    match compare(memory, left, right) {
+    match compare(&mut runtime.memory, left, right) {
         Ok(found) => {
             context.operands.replace(2, boolean(relation.holds(found)));
             Ok(())

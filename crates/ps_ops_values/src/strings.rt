@@ -4,30 +4,25 @@ ghost use Rattle.std.specs.Prelude.{◌≡◌};
 ghost use Rattle.ps_language.specs.Rows.{printing_row};
 ghost use Rattle.ps_language.specs.RowsOutput.{print_row};
 ghost use Rattle.ps_ops_state.specs.Acts.{Acts, nothing_asked};
-ghost use Rattle.ps_ops_state.specs.Lent.{lent, IsGood};
+ghost use Rattle.ps_ops_state.specs.Lent.{lent_of, IsGood};
 
 use ps_language::errors::ErrorName;
 use ps_mem::Memory;
 use ps_ops_operands::access::is_readable;
 use ps_ops_operands::failure::NotMade;
 use ps_ops_state::breaks::Break;
-use ps_ops_state::lent::{Context, Shared, Trial};
+use ps_ops_state::lent::{Attempt, Context, Runtime};
 use ps_ops_strings::readers::string_of;
 use std::alloc::AllocError;
 
 /// `S print`: its bytes. Raises `stackunderflow`, `typecheck` and `invalidaccess`. Not made, by
 /// `Memory`, where that is more than may be printed, or the output lacks room and its growth is
 /// refused.
-pub fn print<M: Memory>(
-    context: &mut Context,
-    shared: &mut Shared,
-    memory: &mut M,
-) -> Result<(), Break>
-    requires good { IsGood
-        (lent (M.heap memory.old) (M.grants memory.old) context.old shared.old) }
-    ensures acts { (trial : Trial) → Acts nothing_asked (printing_row print_row) trial result
-        (lent (M.heap memory.old) (M.grants memory.old) context.old shared.old)
-        (lent (M.heap memory.new) (M.grants memory.new) context.new shared.new) }
+pub fn print<M: Memory>(context: &mut Context, runtime: &mut Runtime<M>) -> Result<(), Break>
+    requires good { IsGood (lent_of M.heap M.grants context.old runtime.old) }
+    ensures acts { (attempt : Attempt) → Acts nothing_asked (printing_row print_row) attempt result
+        (lent_of M.heap M.grants context.old runtime.old)
+        (lent_of M.heap M.grants context.new runtime.new) }
 {
     let Some(top) = context.operands.top() else {
         return Err(Break::Raises(ErrorName::StackUnderflow));
@@ -38,7 +33,7 @@ pub fn print<M: Memory>(
     if !is_readable(part.access) {
         return Err(Break::Raises(ErrorName::InvalidAccess));
     }
-    match shared.printed.print_part(memory, part) {
+    match runtime.shared.printed.print_part(&mut runtime.memory, part) {
         Ok(()) => {
             context.operands.discard(1);
             Ok(())

@@ -13,7 +13,7 @@ ghost use Rattle.ps_mem.specs.Meaning.{part_of, value_of};
 ghost use Rattle.ps_mem.specs.Shows.{IsSound, IsValue, IsWithin, Shows};
 ghost use Rattle.ps_ops_operands.specs.Changes.{KeepsLogsWithin, spent};
 ghost use Rattle.ps_ops_state.specs.Acts.{Acts, IsAtLeast};
-ghost use Rattle.ps_ops_state.specs.Lent.{lent, rooms_of, IsEmpty, IsGood};
+ghost use Rattle.ps_ops_state.specs.Lent.{lent_of, rooms_of, IsEmpty, IsGood};
 ghost use Rattle.ps_ops_values.specs.Asks.{cvs_asks};
 ghost use Rattle.ps_ops_values.specs.TextReads.{IsTextReason, ReadsText};
 
@@ -24,9 +24,9 @@ use ps_names::Names;
 use ps_ops_operands::access::{is_readable, is_writable};
 use ps_ops_operands::failure::NotMade;
 use ps_ops_operands::permits::{permitted, records_for};
-use ps_ops_sequences::pairs::{Pair, Sequence, copy_contents};
+use ps_ops_sequences::pairs::{Sequence, SequencePair, copy_contents};
 use ps_ops_state::breaks::Break;
-use ps_ops_state::lent::{Context, Scratch, Shared, Trial};
+use ps_ops_state::lent::{Attempt, Context, Runtime, Scratch};
 use ps_ops_strings::readers::{string_interval, string_of};
 use ps_seq::strings::set_bytes;
 use ps_text::plain::{append_plain, plain_length};
@@ -161,15 +161,13 @@ fn write_text<M: Memory>(
 /// `S`. Not made where there is some text and the log takes no record, or a list for it can't grow.
 pub fn cvs<M: Memory>(
     context: &mut Context,
-    shared: &mut Shared,
-    memory: &mut M,
-    trial: Trial,
+    runtime: &mut Runtime<M>,
+    attempt: Attempt,
 ) -> Result<(), Break>
-    requires good { IsGood
-        (lent (M.heap memory.old) (M.grants memory.old) context.old shared.old) }
-    ensures { Acts cvs_asks (changing_row cvs_row) trial result
-        (lent (M.heap memory.old) (M.grants memory.old) context.old shared.old)
-        (lent (M.heap memory.new) (M.grants memory.new) context.new shared.new) }
+    requires good { IsGood (lent_of M.heap M.grants context.old runtime.old) }
+    ensures { Acts cvs_asks (changing_row cvs_row) attempt result
+        (lent_of M.heap M.grants context.old runtime.old)
+        (lent_of M.heap M.grants context.new runtime.new) }
 {
     let Some((target, word)) = context.operands.top_two() else {
         return Err(Break::Raises(ErrorName::StackUnderflow));
@@ -184,12 +182,13 @@ pub fn cvs<M: Memory>(
         if from.length > part.length {
             return Err(Break::Raises(ErrorName::RangeCheck));
         }
-        let pair = Pair {
+        let pair = SequencePair {
             of: Sequence::Strings,
             from,
             to: part,
         };
-        if let Err(reason) = copy_contents(memory, trial.slot, pair, 0, &mut shared.scratch) {
+        let scratch = &mut runtime.shared.scratch;
+        if let Err(reason) = copy_contents(&mut runtime.memory, attempt.slot, pair, 0, scratch) {
             return Err(Break::NotMade(reason));
         }
         context
@@ -197,8 +196,9 @@ pub fn cvs<M: Memory>(
             .replace(2, string_interval(target, part, 0, from.length));
         return Ok(());
     }
+    let shared = &mut runtime.shared;
     match read_text(
-        memory,
+        &mut runtime.memory,
         &shared.names,
         word,
         part.length,
@@ -209,7 +209,7 @@ pub fn cvs<M: Memory>(
         Err(TextFault::Memory) => return Err(Break::NotMade(NotMade::Memory)),
     }
     let count = count_of(&shared.scratch.text);
-    if let Err(reason) = write_text(memory, trial.slot, part, &mut shared.scratch) {
+    if let Err(reason) = write_text(&mut runtime.memory, attempt.slot, part, &mut shared.scratch) {
         return Err(Break::NotMade(reason));
     }
     context

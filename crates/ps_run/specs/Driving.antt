@@ -124,7 +124,8 @@ most_program_bytes = 16777215
 
 -- what the words ask for of a run; plain: whether over memory that is never collected, whatever the
 -- space; streamed: whether printed bytes may go out while it goes on; explored: under how many
--- schedules, if they are chosen by chance; output, entries: the most bytes that it may print, and the
+-- schedules, if they are chosen by chance; output, entries: the most bytes that it may print, and
+-- the
 -- most entries of its schedule, if there is a bound
 pub record Asked : Type 0 where
   pub space : ℕ
@@ -163,7 +164,8 @@ most_asked asked =
 abbrev pub space_of : Asked → Space
 space_of asked = if asked.plain then plain_space else bounded_space asked.space
 
--- the program's text, and the names of files, as far as they are given: that of the program, that of
+-- the program's text, and the names of files, as far as they are given: that of the program, that
+-- of
 -- the record, and that of the schedule to follow
 pub record Names : Type 0 where
   pub file : Option Text
@@ -272,7 +274,8 @@ module _ (asks : world.Status → Around → Scene → acts.Asked) (program : Li
   IsMade cut (Some given) asked report =
       UnderPart cut given (λ part. IsReplayOf asks program part report)
 
--- no more bytes were printed than may be, nor does its schedule have more entries; one that is given
+-- no more bytes were printed than may be, nor does its schedule have more entries; one that is
+-- given
 -- has as many as it has
 abbrev pub IsBoundedAs : Option (List Entry) → Asked → Report → Type 0
 IsBoundedAs None asked report = IsBounded (most_asked asked) report
@@ -335,7 +338,8 @@ IsLost printed told outputs =
     × (outputs.files_new ≡ outputs.files_old)
     × Tells outputs.err_old outputs.err_new lost_line
 
--- what was printed is lost in part; or the run was not cut, and the output took all and was flushed,
+-- what was printed is lost in part; or the run was not cut, and the output took all and was
+-- flushed,
 -- and then the record was made where one is asked for, and the status is that of the outcome
 abbrev pub IsWritten : (cut : Bool) → (recorded : Option Text) → (stats : Bool) → Report → Status
     → Outputs → Type 0

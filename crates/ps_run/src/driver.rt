@@ -15,23 +15,22 @@ use crate::outputs::{Flushing, Telling};
 use crate::reading::{read_given, read_program};
 use crate::statuses::{Status, end, number_of};
 use crate::streams::{output_of, screen_of};
+use crate::systems::System;
 use crate::telling::refuse;
 use ps_ctx::deeds::Deeds;
+use ps_ctx::makers::Makers;
 use ps_run_options::{Options, parse};
-use ps_run_workers::Job;
 use ps_step_interpreter::interprets::Interpret;
-use ps_vault::{RunFault, Watched};
-use std::alloc::Global;
-use std::hash::RandomState;
+use ps_vault::{Job, RunFault, Watched};
 use std::sync::Wait;
 use std::thread::Threads;
 
-/// Runs the program that the words name, by steps that `interpret` makes and operators on contexts
-/// that `deeds` does: by workers in a space that is collected, or over memory that never is. Or
+/// Runs the program that the words name, whose steps and operators on contexts are those of the
+/// makers: by workers in a space that is collected, or over memory that never is. Or
 /// follows the schedule that the words name, or runs the program many times under schedules chosen
 /// by chance. Writes what it printed to `out`, the schedule to the file that the words name
 /// for a record, and statistics and faults to `err`. The words are without the program's name; the
-/// keys are for the table of names alone.
+/// system has threads, memory and keys, which are for the table of names alone.
 ///
 /// What is printed is what the definitions print for the run's schedule. The record has the text of
 /// that schedule. Of many runs the first one's bytes are printed, each ending has a record, and
@@ -61,11 +60,8 @@ pub fn drive<
     X: Telling,
     R: Threads + Wait + Sync,
 >(
-    rt: &R,
-    alloc: Global,
-    interpret: S,
-    deeds: D,
-    keys: RandomState,
+    system: System<'_, R>,
+    makers: Makers<S, D>,
     words: &[&str],
     files: &mut F,
     mut out: W,
@@ -105,22 +101,18 @@ pub fn drive<
           flushed = W.is_flushed result.1;
         }) }
 {
-    match parse(alloc, words) {
+    match parse(system.alloc, words) {
         Ok(options) => match options.explore {
             None => {
-                let (status, out) = run(
-                    rt, alloc, interpret, deeds, keys, &options, files, out, err,
-                );
+                let (status, out) = run(system, makers, &options, files, out, err);
                 (number_of(status), out)
             }
             Some(runs) => {
-                let status = explore(
-                    alloc, &interpret, &deeds, keys, &options, runs, files, &mut out, err,
-                );
+                let status = explore(system, makers, &options, runs, files, &mut out, err);
                 (number_of(status), out)
             }
         },
-        Err(error) => (number_of(refuse(alloc, &error, err)), out),
+        Err(error) => (number_of(refuse(system.alloc, &error, err)), out),
     }
 }
 
@@ -134,11 +126,8 @@ fn run<
     X: Telling,
     R: Threads + Wait + Sync,
 >(
-    rt: &R,
-    alloc: Global,
-    interpret: S,
-    deeds: D,
-    keys: RandomState,
+    system: System<'_, R>,
+    makers: Makers<S, D>,
     options: &Options<'_>,
     files: &mut F,
     out: W,
@@ -166,6 +155,7 @@ fn run<
           flushed = W.is_flushed result.1;
         }) }
 {
+    let alloc = system.alloc;
     let program = match read_program(alloc, options, files, err) {
         Ok(program) => program,
         Err(status) => return (status, out),
@@ -179,14 +169,13 @@ fn run<
         Err(status) => return (status, out),
     };
     let job = Job {
-        interpret,
-        deeds,
+        makers,
         program: bytes,
         config: config_of(options),
-        keys,
+        keys: system.keys,
     };
     let screen = screen_of(out, options.stream);
-    let Watched { report, screen } = make(rt, alloc, job, options, given, screen);
+    let Watched { report, screen } = make(system, job, options, given, screen);
     match report {
         Ok(report) => finish(alloc, &report, options, files, screen, err),
         Err(RunFault::Memory) => (end(err, Status::Memory), output_of(screen)),

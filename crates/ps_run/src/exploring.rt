@@ -13,12 +13,12 @@ use crate::making::config_of;
 use crate::outputs::{Flushing, Telling};
 use crate::reading::read_program;
 use crate::statuses::{Status, end};
+use crate::systems::System;
 use ps_ctx::deeds::Deeds;
+use ps_ctx::makers::Makers;
 use ps_run_options::Options;
 use ps_step_interpreter::interprets::Interpret;
-use ps_vault::{Budget, Setup};
-use std::alloc::Global;
-use std::hash::RandomState;
+use ps_vault::{Budget, Setup, Task};
 
 /// Reads the program, runs it so many times, at least once, and writes what the first run printed,
 /// the record of each ending where that is asked for, and how many endings there were.
@@ -28,11 +28,10 @@ pub(crate) fn explore<
     F: FileSet,
     W: Flushing,
     X: Telling,
+    R,
 >(
-    alloc: Global,
-    interpret: &S,
-    deeds: &D,
-    keys: RandomState,
+    system: System<'_, R>,
+    makers: Makers<S, D>,
     options: &Options<'_>,
     runs: u32,
     files: &mut F,
@@ -41,7 +40,8 @@ pub(crate) fn explore<
 ) -> Status
     requires some { 1 ≤ runs }
     requires many { options.now.explore ≡ Some runs }
-    ensures files { (name : List ℕ) → ¬ IsRecordName (names_of options.now).recorded (Some runs) name
+    ensures files { (name : List ℕ) → ¬ IsRecordName (names_of options.now).recorded (Some runs)
+        name
         → F.contents files.new name ≡ F.contents files.old name }
     ensures unread { F.last_fault files.old ≡ None
         → IfSome (F.last_fault files.new) (λ fault. IsUnread (names_of options.now) fault result
@@ -62,6 +62,7 @@ pub(crate) fn explore<
           flushed = W.is_flushed out.new;
         }) }
 {
+    let alloc = system.alloc;
     let program = match read_program(alloc, options, files, err) {
         Ok(program) => program,
         Err(status) => return status,
@@ -72,22 +73,19 @@ pub(crate) fn explore<
     }
     let config = config_of(options);
     let mut order = Chances::new(config.quantum, runs, err.progress());
-    match ps_vault::explore(
-        alloc,
-        interpret,
-        deeds,
-        bytes,
-        Budget {
-            steps: config.steps,
-            entries: config.entries,
-        },
-        runs,
-        Setup {
-            keys,
+    let task = Task {
+        makers,
+        program: bytes,
+        setup: Setup {
+            keys: system.keys,
             output: config.output,
         },
-        &mut order,
-    ) {
+    };
+    let budget = Budget {
+        steps: config.steps,
+        entries: config.entries,
+    };
+    match ps_vault::explore(alloc, &task, budget, runs, &mut order) {
         Ok(endings) => {
             order.clear();
             finish_all(alloc, endings.as_slice(), runs, options, files, out, err)

@@ -44,6 +44,7 @@ mod progress;
 mod reading;
 mod statuses;
 mod streams;
+mod systems;
 mod telling;
 mod writing;
 
@@ -51,4 +52,5 @@ pub use driver::drive;
 pub use files::{FileSet, MOST_PROGRAM_BYTES, ReadFault, WriteFault};
 pub use outputs::{ErrorOutput, Flushed, Flushing, Telling};
 pub use progress::{NoProgress, Progress};
+pub use systems::System;
 pub use telling::refuse_no_text;

@@ -8,12 +8,13 @@ ghost use Rattle.ps_vault.specs.Reports.{bounds_of, IsBounded, IsReplayOf, IsRun
 ghost use Rattle.ps_vault.specs.Screens.{HasShown, HasShownSome};
 ghost use Rattle.ps_run.specs.Driving.{IsBoundedAs, IsMade, asked_of, config_in};
 
+use crate::systems::System;
 use ps_ctx::deeds::Deeds;
 use ps_run_options::Options;
-use ps_run_workers::{Job, run_shown};
+use ps_run_workers::run_shown;
 use ps_step_interpreter::interprets::Interpret;
 use ps_vault::{
-    ANY_ENTRIES, ANY_OUTPUT, Config, Entry, RunFault, Screen, Setup, Viewer, Watched, replay_shown,
+    ANY_ENTRIES, ANY_OUTPUT, Config, Entry, Job, RunFault, Screen, Viewer, Watched, replay_shown,
     run_plain_shown,
 };
 use std::alloc::Global;
@@ -28,8 +29,7 @@ pub(crate) fn make<
     V: Viewer + Drop + Send,
     R: Threads + Wait + Sync,
 >(
-    rt: &R,
-    alloc: Global,
+    system: System<'_, R>,
     job: Job<'_, S, D>,
     options: &Options<'_>,
     given: Option<Vec<Entry>>,
@@ -50,6 +50,7 @@ pub(crate) fn make<
     ensures unstarted { result.report ≡ Err RunFault.Config → result.screen ≡ screen }
     ensures still { screen.watching ≡ false → result.screen ≡ screen }
 {
+    let System { rt, alloc, .. } = system;
     match given {
         Some(schedule) => follow(alloc, job, schedule.as_slice(), screen),
         None if options.plain => run_plainly(alloc, job, screen),
@@ -76,19 +77,7 @@ fn follow<S: Interpret + Drop, D: Deeds + Drop, V: Viewer + Drop>(
     ensures unshown { OnErr result.report (result.screen ≡ screen) }
     ensures still { screen.watching ≡ false → result.screen ≡ screen }
 {
-    let setup = Setup {
-        keys: job.keys,
-        output: job.config.output,
-    };
-    let report = replay_shown(
-        alloc,
-        job.interpret,
-        job.deeds,
-        job.program,
-        schedule,
-        setup,
-        &mut screen,
-    );
+    let report = replay_shown(alloc, job.into_task(), schedule, &mut screen);
     Watched { report, screen }
 }
 
@@ -112,15 +101,7 @@ fn run_plainly<S: Interpret + Drop, D: Deeds + Drop, V: Viewer + Drop>(
     ensures unshown { OnErr result.report (result.screen ≡ screen) }
     ensures still { screen.watching ≡ false → result.screen ≡ screen }
 {
-    let report = run_plain_shown(
-        alloc,
-        job.interpret,
-        job.deeds,
-        job.program,
-        job.config,
-        job.keys,
-        &mut screen,
-    );
+    let report = run_plain_shown(alloc, job, &mut screen);
     Watched { report, screen }
 }
 

@@ -11,7 +11,7 @@ use crate::files::{FileSet, MOST_PROGRAM_BYTES, ReadFault};
 use crate::outputs::Telling;
 use crate::statuses::{Status, end};
 use crate::writing::tell_number;
-use ps_run_options::{Options, Source};
+use ps_run_options::{Options, ProgramSource};
 use ps_run_schedules::{ScheduleFault, read_entries};
 use ps_vault::Entry;
 use std::alloc::Global;
@@ -101,7 +101,8 @@ pub(crate) fn read_program<F: FileSet, X: Telling>(
     ensures succeeded { OnOk result (F.last_fault files.new ≡ F.last_fault files.old) }
     ensures writes { F.is_unwritten files.new ≡ F.is_unwritten files.old }
     ensures unread { F.last_fault files.old ≡ None → IfErr result
-        (λ told. IfSome (F.last_fault files.new) (λ fault. IsUnread (names_of options.now) fault told
+        (λ told. IfSome (F.last_fault files.new) (λ fault. IsUnread (names_of options.now) fault
+        told
         (X.told err.old) (X.told err.new))) }
     ensures fault { IfErr result (λ told. ((told ≡ Status.Memory)
         × Tells (X.told err.old) (X.told err.new) (driving.line_of Status.Memory))
@@ -109,8 +110,8 @@ pub(crate) fn read_program<F: FileSet, X: Telling>(
         (X.told err.old) (X.told err.new))) }
 {
     match options.source {
-        Source::File(name) => read_file(alloc, name, files, err),
-        Source::Text(text) => copy_text(alloc, text, err),
+        ProgramSource::File(name) => read_file(alloc, name, files, err),
+        ProgramSource::Text(text) => copy_text(alloc, text, err),
     }
 }
 
@@ -225,7 +226,8 @@ pub(crate) fn read_given<F: FileSet, X: Telling>(
     ensures succeeded { OnOk result (F.last_fault files.new ≡ F.last_fault files.old) }
     ensures writes { F.is_unwritten files.new ≡ F.is_unwritten files.old }
     ensures unread { F.last_fault files.old ≡ None → IfErr result
-        (λ told. IfSome (F.last_fault files.new) (λ fault. IsUnread (names_of options.now) fault told
+        (λ told. IfSome (F.last_fault files.new) (λ fault. IsUnread (names_of options.now) fault
+        told
         (X.told err.old) (X.told err.new))) }
     ensures fault { IfErr result (λ told. ((told ≡ Status.Memory)
         × Tells (X.told err.old) (X.told err.new) (driving.line_of Status.Memory))

@@ -19,7 +19,7 @@ use Rattle.ps_vault.specs.Reports.{bounds_of, IsBounded, IsReplayOf, IsRunIn, Is
 use Rattle.ps_run_hosts.specs.declared.hosting.Refusal.{Refusal}
 use Rattle.ps_run_hosts.specs.declared.hosting.Refusal.TheVariants.{OutOfRange, NoRoom, OtherSchedule, BadEntry}
 use Rattle.ps_run_hosts.specs.declared.numbers.Settings.{Settings}
-use Rattle.ps_run_hosts.specs.declared.numbers.Counts.{Counts}
+use Rattle.ps_run_hosts.specs.declared.numbers.HostCounts.{HostCounts}
 use Rattle.ps_run_hosts.specs.declared.numbers.HostEntry.{HostEntry}
 
 -- a bound that a host gives, where 0 asks for the one that is none
@@ -96,7 +96,7 @@ code_of_refusal BadEntry = 19
 pub record Rooms : Type 0 where
   pub printed : List ℕ
   pub schedule : List HostEntry
-  pub counts : Counts
+  pub counts : HostCounts
 
 -- the host was handed this report, and has its code
 pub record IsHanded (report : Report) (old new : Rooms) (code : ℕ) : Type 0 where

@@ -6,7 +6,7 @@ ghost use Rattle.ps_run_hosts.specs.Hosts as hosts;
 ghost use Rattle.ps_run_hosts.specs.Hosts.{handed, IsHanded, IsHandedOut, IsNotTaken};
 
 use crate::hosting::Refusal;
-use crate::numbers::{Counts, HostEntry, code_of, code_of_refusal, given_entry, handed_entry};
+use crate::numbers::{HostCounts, HostEntry, code_of, code_of_refusal, given_entry, handed_entry};
 use ps_language::schedules::Entry;
 use ps_run_schedules::{Entries, is_entry, steps_of};
 use ps_vault::Report;
@@ -81,7 +81,7 @@ fn hand_report(
     report: &Report,
     printed: &mut [u8],
     schedule: &mut [HostEntry],
-    counts: &mut Counts,
+    counts: &mut HostCounts,
 ) -> u32
     ensures { IsHanded report.now
         (record { printed = printed.old; schedule = schedule.old; counts = counts.old })
@@ -89,7 +89,7 @@ fn hand_report(
 {
     hand_bytes(report.printed.as_slice(), printed);
     hand_entries(report.schedule.entries(), schedule);
-    *counts = Counts {
+    *counts = HostCounts {
         bytes: report.printed.len() as u64,
         entries: report.schedule.len() as u64,
         steps: steps_of(report.schedule.entries()),
@@ -105,7 +105,7 @@ pub fn hand_out(
     made: &Result<Report, Refusal>,
     printed: &mut [u8],
     schedule: &mut [HostEntry],
-    counts: &mut Counts,
+    counts: &mut HostCounts,
 ) -> u32
     ensures { IsHandedOut made.now
         (record { printed = printed.old; schedule = schedule.old; counts = counts.old })

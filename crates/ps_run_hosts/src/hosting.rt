@@ -9,19 +9,13 @@ use crate::handing::given_entries;
 use crate::keys::keys_of;
 use crate::numbers::{HostEntry, Settings, config_in, most_output};
 use ps_ctx::deeds::Deeds;
+use ps_ctx::makers::Makers;
 use ps_language::schedules::Entry;
 use ps_run_schedules::{Entries, begins, steps_of};
-use ps_run_workers::{Job, run_alone};
+use ps_run_workers::run_alone;
 use ps_step_interpreter::interprets::Interpret;
-use ps_vault::{Report, RunFault, Setup, replay, run_plain_behind};
+use ps_vault::{Job, Report, RunFault, Setup, Task, replay, run_plain_behind};
 use std::alloc::Global;
-
-/// Who makes the steps of a run, and who does its operators on other contexts.
-#[derive(Drop)]
-pub struct Makers<S: Drop, D: Drop> {
-    pub interpret: S,
-    pub deeds: D,
-}
 
 /// Why a call made no run.
 #[derive(Clone, Copy, Debug, PartialEq, Eq)]
@@ -127,8 +121,12 @@ pub fn replay_for<S: Interpret + Drop, D: Deeds + Drop>(
         keys,
         output: most_output(settings),
     };
-    let Makers { interpret, deeds } = makers;
-    match replay(alloc, interpret, deeds, program, entries.as_slice(), setup) {
+    let task = Task {
+        makers,
+        program,
+        setup,
+    };
+    match replay(alloc, task, entries.as_slice()) {
         Ok(report) => Ok(report),
         Err(_) => Err(Refusal::NoRoom),
     }
@@ -150,17 +148,14 @@ fn make<S: Interpret + Drop, D: Deeds + Drop>(
     let Ok(keys) = keys_of(&settings.keys) else {
         return Err(RunFault::Memory);
     };
-    let config = config_in(settings);
-    let Makers { interpret, deeds } = makers;
-    if settings.plain != 0 {
-        return run_plain_behind(alloc, interpret, deeds, program, config, keys, given);
-    }
     let job = Job {
-        interpret,
-        deeds,
+        makers,
         program,
-        config,
+        config: config_in(settings),
         keys,
     };
+    if settings.plain != 0 {
+        return run_plain_behind(alloc, job, given);
+    }
     run_alone(alloc, job, given)
 }

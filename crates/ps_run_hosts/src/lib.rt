@@ -19,7 +19,7 @@ mod laws;
 mod numbers;
 
 pub use handing::hand_out;
-pub use hosting::{Makers, Refusal, go_on_for, replay_for, run_for};
+pub use hosting::{Refusal, go_on_for, replay_for, run_for};
 pub use keys::Keys;
 pub use laws::host_entry_laws;
-pub use numbers::{Counts, HostEntry, Settings};
+pub use numbers::{HostCounts, HostEntry, Settings};

@@ -32,7 +32,7 @@ pub struct Settings {
 /// How much a run came to, whatever the host had room for.
 #[repr(C)]
 #[derive(Clone, Copy, Debug, PartialEq, Eq)]
-pub struct Counts {
+pub struct HostCounts {
     /// The bytes that it printed.
     pub bytes: u64,
     /// The entries of its schedule.

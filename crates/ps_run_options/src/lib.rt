@@ -13,4 +13,4 @@ mod form;
 mod options;
 mod sizes;
 
-pub use options::{Options, Source, VERSION, no_text, overwritten, parse};
+pub use options::{Options, ProgramSource, VERSION, no_text, overwritten, parse};

@@ -39,7 +39,7 @@ const NO_TEXT: &str = "invalid UTF-8 was detected in one or more arguments";
 
 /// Where the program is.
 #[derive(Clone, Copy, Debug, PartialEq, Eq)]
-pub enum Source<'a> {
+pub enum ProgramSource<'a> {
     /// In the file of this name; `-` is standard input.
     File(&'a str),
     /// It is this text.
@@ -76,7 +76,7 @@ pub struct Options<'a> {
     /// nothing is chosen by chance.
     pub replay_file: Option<&'a str>,
     /// Where the program is.
-    pub source: Source<'a>,
+    pub source: ProgramSource<'a>,
 }
 
 /// A fault of words that the rules take one by one.
@@ -138,7 +138,7 @@ fn excluded(matches: &ArgMatches<'_>) -> Option<&'static str>
 }
 
 /// Where the program is, by the words of the matches. Fails where they name none, or two.
-fn source_of<'a>(matches: &ArgMatches<'a>) -> Result<Source<'a>, Misuse>
+fn source_of<'a>(matches: &ArgMatches<'a>) -> Result<ProgramSource<'a>, Misuse>
     ensures file { IfOk result
         (λ source. file_of source ≡ first_value (found_of matches.now) (codes "FILE")) }
     ensures text { IfOk result
@@ -151,8 +151,8 @@ fn source_of<'a>(matches: &ArgMatches<'a>) -> Result<Source<'a>, Misuse>
         (first_value (found_of matches.now) (codes "e")) ≡ []) }
 {
     match (matches.get_str("FILE"), matches.get_str("e")) {
-        (Some(name), None) => Ok(Source::File(name)),
-        (None, Some(text)) => Ok(Source::Text(text)),
+        (Some(name), None) => Ok(ProgramSource::File(name)),
+        (None, Some(text)) => Ok(ProgramSource::Text(text)),
         (None, None) => Err(Misuse {
             kind: ErrorKind::MissingRequiredArgument,
             text: NO_SOURCE,

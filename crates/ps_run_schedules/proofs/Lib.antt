@@ -1,4 +1,5 @@
 pub mod Counting
+mod Examples
 pub mod Heads
 pub mod Beginnings
 pub mod Once

@@ -18,7 +18,7 @@ use Rattle.ps_mem.specs.Heap.{Heap, Grants}
 use Rattle.ps_ops_operands.specs.declared.failure.NotMade.{NotMade as Reason}
 use Rattle.ps_ops_operands.specs.declared.failure.NotMade.TheVariants.{Memory, NeedSpace}
 use Rattle.ps_ops_state.specs.Acts.{Asked}
-use Rattle.ps_core_flips.specs.Collected.{may_open, one_more_if, stopped}
+use Rattle.ps_core_laws.specs.Collected.{may_open, one_more_if, stopped}
 use Rattle.ps_gc_roots.specs.Moved.{IsLeft}
 use Rattle.ps_ctx.specs.Needs.{step_wants}
 use Rattle.ps_vault.specs.declared.reports.Config.{Config}

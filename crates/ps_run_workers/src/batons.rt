@@ -15,15 +15,14 @@ ghost use Rattle.ps_run_workers.specs.Batons.{GoesOn, HasEnded, IsStarvedAt, May
 
 use crate::origins::Origin;
 use crate::paces::Pace;
-use crate::runs::Job;
 use crate::waits::Waits;
-use ps_core_flips::collected::Counts;
+use ps_core_laws::collected::Counts;
 use ps_ctx::deeds::Deeds;
 use ps_mem::Memory;
 use ps_ops_operands::failure::NotMade;
 use ps_step_interpreter::interprets::Interpret;
 use ps_vault::{
-    Advanced, Config, Outcome, Room, RunFault, Screen, Setup, Told, Vault, Viewer, Watched,
+    Advanced, Config, Job, Outcome, Room, RunFault, Screen, Told, Vault, Viewer, Watched,
 };
 use std::alloc::Global;
 use std::marker::{Model, PhantomData};
@@ -124,27 +123,10 @@ impl<'a, O: Origin, M: Memory + Drop, S: Interpret + Drop, D: Deeds + Drop, V: V
         requires going { screen.failed ≡ false }
         ensures fault { IfErr result (λ given. given ≡ screen) }
     {
-        let Job {
-            interpret,
-            deeds,
-            program,
-            config,
-            keys,
-        } = job;
+        let config = job.config;
         prove!(config.steps <= u32::MAX);
-        let setup = Setup {
-            keys,
-            output: config.output,
-        };
-        let Ok(vault) = Vault::new(
-            alloc,
-            memory,
-            interpret,
-            deeds,
-            program,
-            setup,
-            Room::of_run(config.entries),
-        ) else {
+        let room = Room::of_run(config.entries);
+        let Ok(vault) = Vault::new(alloc, memory, job.into_task(), room) else {
             return Err(screen);
         };
         Ok(Baton {

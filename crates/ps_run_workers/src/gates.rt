@@ -3,9 +3,9 @@
 
 ghost use Rattle.std.specs.Prelude.{◌≡◌};
 
-use ps_core_flips::collected::Counts;
-use ps_core_flips::sides::{Collects, LoggedMemory, Works};
-use ps_core_memory::Closing;
+use ps_core_laws::Closing;
+use ps_core_laws::collected::Counts;
+use ps_core_laws::sides::{Collects, LoggedMemory, Works};
 use ps_language::kinds::Kind;
 use ps_mem::marks::Mark;
 use ps_mem::{Memory, NeedFault, Permit, Slot};

@@ -51,4 +51,4 @@ mod serving;
 mod waits;
 
 pub use gates::Gate;
-pub use runs::{Job, run, run_alone, run_gated, run_serial, run_shown};
+pub use runs::{run, run_alone, run_gated, run_serial, run_shown};

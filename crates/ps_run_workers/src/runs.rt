@@ -5,7 +5,7 @@ ghost use Rattle.std.specs.Prelude.{◌≡◌, ◌≢◌, ◌↔◌, false, Err,
 ghost use Rattle.ps_core_machine.specs.Steps.{start};
 ghost use Rattle.ps_mem.specs.Bounded.{bounded_space};
 ghost use Rattle.ps_mem.specs.Heap.{empty_heap};
-ghost use Rattle.ps_core_memory.specs.Memory.{heap_of};
+ghost use Rattle.ps_core_laws.specs.Memory.{heap_of};
 ghost use Rattle.ps_ctx_start.specs.Starts.{IsEmptyHeap};
 ghost use Rattle.ps_vault.specs.Reports.{bounds_of, IsBounded, IsRunIn, IsWithin};
 ghost use Rattle.ps_run_workers.specs.Batons.{HasEnded};
@@ -16,32 +16,22 @@ use crate::loops::{Desk, work_all, work_all_serially};
 use crate::origins::Origin;
 use crate::serial::SerialBaton;
 use crate::serving::Lent;
-use ps_core_flips::collected::CollectedMemory;
-use ps_core_flips::sides::{Collects, LoggedMemory, Past, Works};
+use ps_core_laws::collected::CollectedMemory;
+use ps_core_laws::sides::{Collects, LoggedMemory, Past, Works};
 use ps_ctx::deeds::Deeds;
+use ps_ctx::makers::Makers;
 use ps_gc::{CollectedSpace, Inside, Naming, named_seats};
 use ps_gc_roots::ROOT_LIMIT;
 use ps_mem::Memory;
 use ps_mem::marked::Marked;
 use ps_step_interpreter::interprets::Interpret;
-use ps_table::{GcSeat, PlainWords, Shared, VmSeat};
-use ps_vault::{Config, Entry, NoViewer, Report, Roots, RunFault, Screen, Viewer, Watched};
+use ps_table::{GcSeat, PlainWords, SharedSeats, VmSeat};
+use ps_vault::{Config, Entry, Job, NoViewer, Report, RootList, RunFault, Screen, Viewer, Watched};
 use std::alloc::{AllocError, Global};
 use std::hash::RandomState;
 use std::marker::Brand;
 use std::sync::{Mutex, Wait};
 use std::thread::Threads;
-
-/// What is run: a program, who makes its steps, the numbers of the run, and the keys of its table of
-/// names. The keys are for that alone.
-#[derive(Drop)]
-pub struct Job<'a, S: Drop, D: Drop> {
-    pub interpret: S,
-    pub deeds: D,
-    pub program: &'a [u8],
-    pub config: Config,
-    pub keys: RandomState,
-}
 
 /// A run that can't begin for want of memory.
 fn no_memory<V: Viewer + Drop>(screen: Screen<V>) -> Watched<V>
@@ -78,7 +68,7 @@ fn run_beside<
     ensures fault { result.report ≢ Err RunFault.Config }
 {
     let workers = job.config.workers;
-    let Ok(roots) = Roots::new(alloc) else {
+    let Ok(roots) = RootList::new(alloc) else {
         return no_memory(screen);
     };
     let (memory, collector) = sides;
@@ -217,7 +207,7 @@ pub fn run_shown<
             screen,
         };
     }
-    let Ok(seats) = Shared::new(alloc, job.config.space) else {
+    let Ok(seats) = SharedSeats::new(alloc, job.config.space) else {
         return no_memory(screen);
     };
     run_named::<Brand, S, D, V, R>(rt, alloc, seats, job, screen)
@@ -239,7 +229,7 @@ pub fn run_gated<
     if !job.config.is_within() {
         return Err(RunFault::Config);
     }
-    let Ok(seats) = Shared::new(alloc, job.config.space) else {
+    let Ok(seats) = SharedSeats::new(alloc, job.config.space) else {
         return Err(RunFault::Memory);
     };
     run_named_gated::<Brand, S, D, G, R>(rt, alloc, seats, job, gate)

@@ -10,15 +10,14 @@ ghost use Rattle.ps_run_workers.specs.Batons.{GoesOn, SameProgress, MayGoOn};
 
 use crate::batons::{Baton, TURNS};
 use crate::origins::Origin;
-use crate::runs::Job;
 use crate::serving::Lent;
-use ps_core_flips::collected::CollectedMemory;
-use ps_core_flips::sides::{Collects, Past};
+use ps_core_laws::collected::CollectedMemory;
+use ps_core_laws::sides::{Collects, Past};
 use ps_ctx::deeds::Deeds;
 use ps_mem::marked::Marked;
 use ps_ops_operands::failure::NotMade;
 use ps_step_interpreter::interprets::Interpret;
-use ps_vault::{Entry, Guide, NoViewer, Outcome, Report, Roots, RunFault, Screen, Viewer};
+use ps_vault::{Entry, Guide, Job, NoViewer, Outcome, Report, RootList, RunFault, Screen, Viewer};
 use std::alloc::Global;
 
 /// The actions of the collector behind the steps of a turn, in an open cycle.
@@ -71,7 +70,7 @@ impl<
         if !job.config.is_within() {
             return Err(RunFault::Config);
         }
-        let Ok(roots) = Roots::new(alloc) else {
+        let Ok(roots) = RootList::new(alloc) else {
             return Err(RunFault::Memory);
         };
         let (memory, collector) = sides;

@@ -8,15 +8,15 @@ ghost use Rattle.ps_run_workers.specs.Batons.{GoesOn, HasEnded, IsTight, SamePro
 use crate::batons::{Baton, TURNS};
 use crate::origins::Origin;
 use crate::waits::Wanting;
-use ps_core_flips::collected::Counts;
-use ps_core_flips::sides::{Collects, LoggedMemory, Works};
-use ps_core_memory::Closing;
+use ps_core_laws::Closing;
+use ps_core_laws::collected::Counts;
+use ps_core_laws::sides::{Collects, LoggedMemory, Works};
 use ps_ctx::deeds::Deeds;
 use ps_mem::Slot;
 use ps_ops_operands::failure::NotMade;
 use ps_record::SLOTS;
 use ps_step_interpreter::interprets::Interpret;
-use ps_vault::{Outcome, Roots, RunFault, Viewer, Watched};
+use ps_vault::{Outcome, RootList, RunFault, Viewer, Watched};
 
 /// The most steps of one hold of the baton: behind it what was printed is shown.
 const STEPS: u32 = 65536;
@@ -45,7 +45,7 @@ pub(crate) enum Stage {
 #[derive(Drop)]
 pub(crate) struct Lent<C> {
     pub(crate) collector: C,
-    pub(crate) roots: Roots,
+    pub(crate) roots: RootList,
 }
 
 impl<

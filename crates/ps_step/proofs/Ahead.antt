@@ -22,10 +22,10 @@ use Rattle.ps_ops_control.specs.declared.frames.Frame.TheVariants.{Stopped, Bind
 use Rattle.ps_ops_control.specs.declared.frames.Source.{Source}
 use Rattle.ps_ops_control.specs.declared.ahead.Ahead.{Ahead}
 use Rattle.ps_ops_control.specs.declared.ahead.Ahead.TheVariants as ahead
-use Rattle.ps_ops_state.specs.declared.lent.Trial.{Trial}
+use Rattle.ps_ops_state.specs.declared.lent.Attempt.{Attempt}
 use Rattle.ps_ops_state.specs.Acts.{Asked}
 use Rattle.ps_ops_state.specs.Lent.{Lent, IsShown, IsGood}
-use Rattle.ps_ops_state.specs.Trials.{ordinary}
+use Rattle.ps_ops_state.specs.Attempts.{ordinary}
 use Rattle.ps_step_outcome.specs.declared.turned.Turned.{Turned}
 use Rattle.ps_step_outcome.specs.declared.turned.Turned.TheVariants.{Goes}
 use Rattle.ps_step_outcome.specs.Turns.{Turns, TurnsWith, none_asked}
@@ -97,8 +97,8 @@ module _ (heap : Heap) (dictionaries : List Word) (rest : Part) (old : List Word
       (reads : (names : List (List ℕ)) (s : Store) → Shows heap names s
       → slice_get (elements s (birth_at heap rest.address)) (rest.offset + made)
       ≡ Some (value_of (birth_at heap) names word)) where
-    abbrev trial : Trial
-    trial = record { slot = 0; refused = false }
+    abbrev attempt : Attempt
+    attempt = record { slot = 0; refused = false }
 
     -- what one more comes to
     abbrev Comes : Ahead → Type 0
@@ -131,22 +131,22 @@ module _ (heap : Heap) (dictionaries : List Word) (rest : Part) (old : List Word
           restacked_good mid now (rest_frames left below) (rest_good mid left below refl good) good
 
       one_turn : (frames : List Frame) → IsGood mid
-          → TurnsWith (word ∷ word ∷ []) [] (executed_asks asks word) (done_turn word word) trial
+          → TurnsWith (word ∷ word ∷ []) [] (executed_asks asks word) (done_turn word word) attempt
           (Ok Goes) (record mid { frames = rest_frames left below }) (with_stacks frames)
-          → Turns (frame_asks asks) running_turn trial (Ok Goes) mid (with_stacks frames)
+          → Turns (frame_asks asks) running_turn attempt (Ok Goes) mid (with_stacks frames)
       one_turn frames good turns =
           element_made mid left below refl word element_read good
-          (λ s shown. within l.names s shown.shows) asks trial Goes (with_stacks frames) turns
+          (λ s shown. within l.names s shown.shows) asks attempt Goes (with_stacks frames) turns
 
       made_one : (frames : List Frame) → HasRun made before mid
-          → TurnsWith (word ∷ word ∷ []) [] (executed_asks asks word) (done_turn word word) trial
+          → TurnsWith (word ∷ word ∷ []) [] (executed_asks asks word) (done_turn word word) attempt
           (Ok Goes) (record mid { frames = rest_frames left below }) (with_stacks frames)
           → HasRun (made + 1) before (with_stacks frames)
       made_one frames so_far turns =
           run_more (own_asks asks) 0 made before mid (with_stacks frames) so_far
           (λ none. absurd (cc))
           (turns_as (frame_asks asks) (asks_in (own_asks asks) None) running_turn (own_turn None)
-          trial (Ok Goes) mid (with_stacks frames) (λ s shown. refl) (λ s shown. refl)
+          attempt (Ok Goes) mid (with_stacks frames) (λ s shown. refl) (λ s shown. refl)
           (one_turn frames so_far.good turns))
 
       so_made : DoesTo heap dictionaries rest made old now → IsGood before
@@ -170,7 +170,7 @@ module _ (heap : Heap) (dictionaries : List Word) (rest : Part) (old : List Word
         subst (λ (frames : List Frame). HasRun (made + 1) (before l below)
         (with_stacks l below frames)) (then_taken rest below made 1 (made + 1) refl)
         (made_one l below (rest_frames (left l below) below) done
-        (goes.1 (record (mid l below) { frames = rest_frames (left l below) below }) trial
+        (goes.1 (record (mid l below) { frames = rest_frames (left l below) below }) attempt
         (rest_mid l below done.good) (value, (value, tt)) tt))
 
     pub does_into : (body : Part) → DoesTo heap dictionaries rest made old now
@@ -181,7 +181,7 @@ module _ (heap : Heap) (dictionaries : List Word) (rest : Part) (old : List Word
         subst (λ (frames : List Frame). HasRun (made + 1) (before l below)
         (with_stacks l below (Procedure body ∷ frames))) (then_taken rest below made 1 (made + 1) refl)
         (made_one l below (Procedure body ∷ rest_frames (left l below) below) done
-        (goes.1 (record (mid l below) { frames = rest_frames (left l below) below }) trial
+        (goes.1 (record (mid l below) { frames = rest_frames (left l below) below }) attempt
         (rest_mid l below done.good) (value, (value, tt)) (rest_room l below room)))
 
 -- the element at a place is the first of what is left
@@ -240,11 +240,11 @@ module _ (asks : Asks) (l : Lent) (top : Frame)
     pub framed_by : l.frames ≢ []
     framed_by none = absurd (cc (none, is))
 
-    pub own_turns : (trial : Trial) (result : Result Turned Reason) (new : Lent)
-        → Turns (frame_asks asks) running_turn trial result l new
-        → Turns (asks_in (own_asks asks) None) (own_turn None) trial result l new
-    own_turns trial result new turns =
-        turns_as (frame_asks asks) (asks_in (own_asks asks) None) running_turn (own_turn None) trial
+    pub own_turns : (attempt : Attempt) (result : Result Turned Reason) (new : Lent)
+        → Turns (frame_asks asks) running_turn attempt result l new
+        → Turns (asks_in (own_asks asks) None) (own_turn None) attempt result l new
+    own_turns attempt result new turns =
+        turns_as (frame_asks asks) (asks_in (own_asks asks) None) running_turn (own_turn None) attempt
         result l new (λ s shown. refl)
         (λ s shown. subst (λ (frames : List Frame). frame_asks asks (record l { frames = frames }) s
         ≡ asks_in (own_asks asks) None (record l { frames = frames }) s) (sym frames_split)
@@ -292,7 +292,7 @@ no_asks operator around scene = none_asked
 pub made_turn : (l after : Lent) (top : Frame)
     → ((source : Source) (at : ℕ) → top ≡ Text source at → ⊥) → first_of l.frames ≡ Some top
     → IsGood l → (asks : Asks)
-    → ((trial : Trial) → Turns (frame_asks asks) running_turn trial (Ok Goes) l after)
+    → ((attempt : Attempt) → Turns (frame_asks asks) running_turn attempt (Ok Goes) l after)
     → HasRun 1 l after
 made_turn l after top other is good asks goes =
     run_more (own_asks asks) 0 0 l l after (run_none l good) (framed_by asks l top other is)
@@ -357,15 +357,15 @@ left_behind start l rest most left count operands few within makes =
 -- behind steps that were made, its first element is done
 module _ (asks : Asks) (start l : Lent) (rest : Part) (made : ℕ)
     (makes : HasRun made start (above rest l)) where
-  abbrev AboveTurns : (trial : Trial) → Result Turned Reason → Lent → Type 0
-  AboveTurns trial result new =
-      Turns (asks_in (own_asks asks) None) (own_turn None) trial result (above rest l) new
+  abbrev AboveTurns : (attempt : Attempt) → Result Turned Reason → Lent → Type 0
+  AboveTurns attempt result new =
+      Turns (asks_in (own_asks asks) None) (own_turn None) attempt result (above rest l) new
 
-  own_above : (trial : Trial) (result : Result Turned Reason) (new : Lent)
-      → Turns (frame_asks asks) running_turn trial result (above rest l) new
-      → AboveTurns trial result new
-  own_above trial result new turns =
-      turns_as (frame_asks asks) (asks_in (own_asks asks) None) running_turn (own_turn None) trial
+  own_above : (attempt : Attempt) (result : Result Turned Reason) (new : Lent)
+      → Turns (frame_asks asks) running_turn attempt result (above rest l) new
+      → AboveTurns attempt result new
+  own_above attempt result new turns =
+      turns_as (frame_asks asks) (asks_in (own_asks asks) None) running_turn (own_turn None) attempt
       result (above rest l) new (λ s shown. refl) (λ s shown. refl) turns
 
   pub turned_above : (slot : ℕ) (result : Result Turned Reason) (new : Lent)

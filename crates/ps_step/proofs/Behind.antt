@@ -11,7 +11,7 @@ use Rattle.ps_ops_control.specs.declared.frames.Frame.{Frame}
 use Rattle.ps_ops_control.specs.declared.frames.Frame.TheVariants.{Procedure}
 use Rattle.ps_ops_control.specs.Frames.{AreFrames}
 use Rattle.ps_ops_state.specs.Lent.{Lent, IsGood}
-use Rattle.ps_ops_state.specs.Trials.{ordinary}
+use Rattle.ps_ops_state.specs.Attempts.{ordinary}
 use Rattle.ps_ops_state.specs.Unframed.{IsUndone}
 use Rattle.ps_ops_state.proofs.Kept.{frames-good}
 use Rattle.ps_ops_state.proofs.Meeting.{lasts-same}

@@ -10,7 +10,7 @@ use Rattle.ps_ops_control.specs.declared.frames.Frame.TheVariants.{Stopped, Moni
 use Rattle.ps_ops_control.specs.declared.frames.Cause.TheVariants.{Exit}
 use Rattle.ps_ops_control.specs.Turns.{ends_at_loop, is_monitor, frames_to_loop}
 use Rattle.ps_ops_state.specs.Lent.{Lent}
-use Rattle.ps_ops_state.specs.Trials.{ordinary}
+use Rattle.ps_ops_state.specs.Attempts.{ordinary}
 use Rattle.ps_step_outcome.specs.declared.turned.Turned.{Turned}
 use Rattle.ps_step_outcome.specs.declared.turned.Turned.TheVariants.{Goes, Breaks}
 use Rattle.ps_step_outcome.specs.Turns.{IsUnderWay}

@@ -7,7 +7,7 @@ use Rattle.ps_language.specs.World.{for_stop, for_exit, for_quit}
 use Rattle.ps_language.specs.Value.{Store}
 use Rattle.ps_mem.specs.Heap.{birth_at}
 use Rattle.ps_ops_operands.specs.declared.failure.NotMade.{NotMade as Reason}
-use Rattle.ps_ops_state.specs.declared.lent.Trial.{Trial}
+use Rattle.ps_ops_state.specs.declared.lent.Attempt.{Attempt}
 use Rattle.ps_ops_state.specs.Acts.{Asked, IsAtLeast}
 use Rattle.ps_ops_state.specs.Lent.{Lent, IsShown, scene_of}
 use Rattle.ps_step_outcome.specs.declared.turned.Turned.{Turned}
@@ -124,14 +124,14 @@ pub unkept_more : (asked : Asked) → IsAtLeast asked.scratch (unkept asked).scr
 unkept_more asked = record { text = omega arith; sought = omega arith; words = omega arith }
 
 -- one that asks for less is one that asks for more
-pub listed_turns : (asks more : Lent → Store → Asked) (turn : Lent → Store → Turn) (trial : Trial)
+pub listed_turns : (asks more : Lent → Store → Asked) (turn : Lent → Store → Turn) (attempt : Attempt)
     (result : Result Turned Reason) (l new : Lent)
     → ((s : Store) → IsShown l s → (asks l s).records ≡ (more l s).records)
     → ((s : Store) → IsShown l s → IsAtLeast (asks l s).scratch (more l s).scratch)
-    → Turns asks turn trial result l new → Turns more turn trial result l new
-listed_turns asks more turn trial result l new records rooms turns =
-    done_alike more asks turn turn trial l new result (λ s shown. record {
+    → Turns asks turn attempt result l new → Turns more turn attempt result l new
+listed_turns asks more turn attempt result l new records rooms turns =
+    done_alike more asks turn turn attempt l new result (λ s shown. record {
       is = λ machine. refl;
-      needs = covers trial.refused (birth_at l.heap l.error_dictionary) (scene_of l s) (asks l s)
+      needs = covers attempt.refused (birth_at l.heap l.error_dictionary) (scene_of l s) (asks l s)
           (more l s) (records s shown) (rooms s shown) (turn l s);
     }) turns

@@ -15,9 +15,9 @@ use Rattle.ps_scan.specs.Shown.{token_of}
 use Rattle.ps_ops_control.specs.declared.frames.Source.{Source}
 use Rattle.ps_ops_control.specs.declared.frames.Frame.{Frame}
 use Rattle.ps_ops_control.specs.Frames.{IsSourceAt, source_of}
-use Rattle.ps_ops_state.specs.declared.lent.Trial.{Trial}
+use Rattle.ps_ops_state.specs.declared.lent.Attempt.{Attempt}
 use Rattle.ps_ops_state.specs.Lent.{Lent, IsShown, IsGood}
-use Rattle.ps_ops_state.specs.Trials.{ordinary}
+use Rattle.ps_ops_state.specs.Attempts.{ordinary}
 use Rattle.ps_step_outcome.specs.declared.turned.Turned.{Turned}
 use Rattle.ps_step_outcome.specs.declared.turned.Turned.TheVariants.{Goes}
 use Rattle.ps_step_outcome.specs.Turns.{Turns, TurnsWith, nothing_more}
@@ -54,24 +54,24 @@ pub word_does : (asks : Asks) (heap : Heap) (dictionaries : List Word) (names : 
     → EntersIn (among heap dictionaries) (word ∷ word ∷ []) (executed_asks asks word)
     (done_turn word word) ahead.Goes old new
     → DoesToken asks heap dictionaries names token old new
-word_does asks heap dictionaries names token word old new is goes l trial same good =
+word_does asks heap dictionaries names token word old new is goes l attempt same good =
     let before : Lent = record (among heap dictionaries l) { operands = old } in
     let after : Lent = record (among heap dictionaries l) { operands = new } in
     turns_as (executed_asks asks word) (token_asks asks token) (done_turn word word)
-    (token_turn token) trial (Ok Goes) before after
+    (token_turn token) attempt (Ok Goes) before after
     (λ s shown. sym (is.turn before s same)) (λ s shown. sym (is.asked asks before s same))
-    (turns_shown (word ∷ word ∷ []) [] (executed_asks asks word) (done_turn word word) trial
+    (turns_shown (word ∷ word ∷ []) [] (executed_asks asks word) (done_turn word word) attempt
     (Ok Goes) before after
     (λ s shown.
     let within : IsWithin (birth_at heap) l.names s word = rw same (is.within (birth_at heap) s) in
     (within, (within, tt))) (λ s shown. tt)
-    (goes.1 l trial good (is.held heap, (is.held heap, tt)) tt))
+    (goes.1 l attempt good (is.held heap, (is.held heap, tt)) tt))
 
 -- ---- over the text that goes on
 
 -- where the token is known that was read
 module _ (asks : Asks) (source : Source) (at : ℕ) (start : Lent)
-    (good : IsGood (read_to source at start)) (trial : Trial) (token : language.Token) (end : ℕ)
+    (good : IsGood (read_to source at start)) (attempt : Attempt) (token : language.Token) (end : ℕ)
     (further : IsSourceAt start.heap (length start.program) source end)
     (scanned : (s : Store) → IsShown (read_to source at start) s
     → scan_at source at (read_to source at start) s ≡ found token end) where
@@ -82,36 +82,36 @@ module _ (asks : Asks) (source : Source) (at : ℕ) (start : Lent)
   below = drop 1 start.frames
 
   abbrev over : Lent
-  over = behind l source at below refl token end scanned asks further good trial
+  over = behind l source at below refl token end scanned asks further good attempt
 
   pub over_good : IsGood over
-  over_good = behind_good l source at below refl token end scanned asks further good trial
+  over_good = behind_good l source at below refl token end scanned asks further good attempt
 
   listed : (result : Result Turned Reason) (new : Lent)
       → Turns (λ (m : Lent) (s : Store). scanned_asks asks source below (scan_at source at m s) m s)
-      running_turn trial result l new
-      → Turns (text_asks asks source at below) running_turn trial result l new
+      running_turn attempt result l new
+      → Turns (text_asks asks source at below) running_turn attempt result l new
   listed result new =
       listed_turns
       (λ (m : Lent) (s : Store). scanned_asks asks source below (scan_at source at m s) m s)
-      (text_asks asks source at below) running_turn trial result l new
+      (text_asks asks source at below) running_turn attempt result l new
       (λ s shown. source_records l _ (source_of (birth_at l.heap) source) _)
       (λ s shown. source_rooms l _ (source_of (birth_at l.heap) source) _)
 
   pub text_goes : (turned : Turned) (new : Lent)
-      → Turns (token_asks asks token) (token_turn token) trial (Ok turned) over new
-      → Turns (text_asks asks source at below) running_turn trial (Ok turned) l new
+      → Turns (token_asks asks token) (token_turn token) attempt (Ok turned) over new
+      → Turns (text_asks asks source at below) running_turn attempt (Ok turned) l new
   text_goes turned new turns =
       listed (Ok turned) new
-      (token_goes l source at below refl token end scanned asks further good trial turned new turns)
+      (token_goes l source at below refl token end scanned asks further good attempt turned new turns)
 
   pub text_unmade : (reason : Reason) (new : Lent)
-      → Turns (token_asks asks token) (token_turn token) trial (Err reason) over new
-      → Turns (text_asks asks source at below) running_turn trial (Err reason) l
+      → Turns (token_asks asks token) (token_turn token) attempt (Err reason) over new
+      → Turns (text_asks asks source at below) running_turn attempt (Err reason) l
       (record new { frames = l.frames })
   text_unmade reason new turns =
       listed (Err reason) (record new { frames = l.frames })
-      (token_unmade l source at below refl token end scanned asks further good trial reason new
+      (token_unmade l source at below refl token end scanned asks further good attempt reason new
       turns)
 
   -- it is treated as a value
@@ -125,16 +125,16 @@ module _ (asks : Asks) (source : Source) (at : ℕ) (start : Lent)
     })
 
     pub token_treated : (result : Result Turned Reason) (new : Lent)
-        → TurnsWith (value ∷ word ∷ []) [] (treated_asks asks value) (treated_turn word value) trial
+        → TurnsWith (value ∷ word ∷ []) [] (treated_asks asks value) (treated_turn word value) attempt
         result over new
-        → Turns (token_asks asks token) (token_turn token) trial result over new
+        → Turns (token_asks asks token) (token_turn token) attempt result over new
     token_treated result new turns =
         turns_as (treated_asks asks value) (token_asks asks token) (treated_turn word value)
-        (token_turn token) trial result over new
+        (token_turn token) attempt result over new
         (λ s shown. sym (is.turn over s refl ∙ (treated s shown).turn))
         (λ s shown. sym (is.asked asks over s refl ∙ (treated s shown).asked))
         (turns_shown (value ∷ word ∷ []) [] (treated_asks asks value) (treated_turn word value)
-        trial result over new
+        attempt result over new
         (λ s shown. ((treated s shown).within, (is.within _ s, tt))) (λ s shown. tt) turns)
 
 -- by what was scanned
@@ -145,12 +145,12 @@ module _ (asks : Asks) (source : Source) (at : ℕ) (start : Lent)
     → let outcome = scan_at source at start s in
     IsScanned (Starves (source_of (birth_at start.heap) source) outcome) text result outcome)
     (held : IsTaken (IsSourceAt start.heap (length start.program) source) text result) where
-  pub read_taken : (trial : Trial) (new : List Word) (end : ℕ)
+  pub read_taken : (attempt : Attempt) (new : List Word) (end : ℕ)
       → Reads asks start.heap start.dictionaries start.names text (Done end) result start.operands
       new
-      → Turns (text_asks asks source at (drop 1 start.frames)) running_turn trial (Ok Goes)
+      → Turns (text_asks asks source at (drop 1 start.frames)) running_turn attempt (Ok Goes)
       (read_to source at start) (read_to source end (record start { operands = new }))
-  read_taken trial new end = by result scanned held
+  read_taken attempt new end = by result scanned held
     where
       by : (result : Result (Option Token) Fault)
           → ((s : Store) → IsShown (read_to source at start) s
@@ -159,17 +159,17 @@ module _ (asks : Asks) (source : Source) (at : ℕ) (start : Lent)
           → IsTaken (IsSourceAt start.heap (length start.program) source) text result
           → Reads asks start.heap start.dictionaries start.names text (Done end) result
           start.operands new
-          → Turns (text_asks asks source at (drop 1 start.frames)) running_turn trial (Ok Goes)
+          → Turns (text_asks asks source at (drop 1 start.frames)) running_turn attempt (Ok Goes)
           (read_to source at start) (read_to source end (record start { operands = new }))
       by (Ok (Some token)) scanned held does =
           subst (λ (n : ℕ). Turns (text_asks asks source at (drop 1 start.frames)) running_turn
-          trial (Ok Goes) (read_to source at start)
+          attempt (Ok Goes) (read_to source at start)
           (read_to source n (record start { operands = new }))) (sym does.0)
-          (text_goes asks source at start good trial (token_of text token.kind) token.end held.0
+          (text_goes asks source at start good attempt (token_of text token.kind) token.end held.0
           scanned Goes (read_to source token.end (record start { operands = new }))
-          (does.1 (over asks source at start good trial (token_of text token.kind) token.end held.0
-          scanned) trial refl
-          (over_good asks source at start good trial (token_of text token.kind) token.end held.0
+          (does.1 (over asks source at start good attempt (token_of text token.kind) token.end held.0
+          scanned) attempt refl
+          (over_good asks source at start good attempt (token_of text token.kind) token.end held.0
           scanned)))
       by (Ok None) scanned held does = absurd does
       by (Err fault) scanned held does = absurd does

@@ -15,8 +15,8 @@ use Rattle.ps_word.specs.declared.values.Part.{Part}
 use Rattle.ps_scan.specs.declared.tokens.Token.{Token}
 use Rattle.ps_ops_control.specs.declared.frames.Source.{Source}
 use Rattle.ps_ops_control.specs.declared.frames.Source.TheVariants.{Program, Text}
-use Rattle.ps_step.specs.declared.texts.Taken.{Taken}
-use Rattle.ps_step.specs.declared.texts.Taken.TheVariants.{Done, Turned}
+use Rattle.ps_step.specs.declared.texts.TokenTaken.{TokenTaken}
+use Rattle.ps_step.specs.declared.texts.TokenTaken.TheVariants.{Done, Turned}
 use Rattle.ps_step.specs.Texts.{Scans}
 use Rattle.ps_step.specs.Windows.{AreRead, IsWindow, StandsBehind, OnDone}
 use Rattle.ps_step.proofs.Scanning.{window_scanned, fronted, rest_scanned, token_further}
@@ -121,6 +121,6 @@ words_in_window h part at program start list window (Some token) stands =
 words_in_window h part at program start list window None stands = tt
 
 -- what follows of what was done by operands alone
-pub done_then : {P Q : Type 0} (taken : Taken) → OnDone taken P → (P → Q) → OnDone taken Q
+pub done_then : {P Q : Type 0} (taken : TokenTaken) → OnDone taken P → (P → Q) → OnDone taken Q
 done_then (Done end) holds follows = follows holds
 done_then (Turned turn) holds follows = tt

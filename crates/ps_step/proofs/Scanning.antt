@@ -24,7 +24,7 @@ use Rattle.ps_ops_control.specs.declared.frames.Source.TheVariants.{Text as Text
 use Rattle.ps_ops_control.specs.declared.frames.Frame.{Frame}
 use Rattle.ps_ops_control.specs.declared.frames.Frame.TheVariants.{Text}
 use Rattle.ps_ops_control.specs.Frames.{IsSourceAt}
-use Rattle.ps_ops_state.specs.declared.lent.Trial.{Trial}
+use Rattle.ps_ops_state.specs.declared.lent.Attempt.{Attempt}
 use Rattle.ps_ops_state.specs.Acts.{Asked, IsReason, IsAtLeast}
 use Rattle.ps_ops_state.specs.Lent.{Lent, scene_of}
 use Rattle.ps_ops_state.proofs.Meeting.{at_least-same}
@@ -97,11 +97,11 @@ module _ (l : Lent) (asked : Asked) where
   source_lacks (world.from_string part) outcome takes = unkept_lacks
 
 -- want of it is a reason, whatever the turn
-pub list_reason : (trial : Trial) (asks : Lent → Store → Asked) (turn : _) (l new : Lent)
+pub list_reason : (attempt : Attempt) (asks : Lent → Store → Asked) (turn : _) (l new : Lent)
     (s : Store) → vec_capacity l.scratch.text < (asks l s).scratch.text
-    → IsReason (needs_in trial asks turn l s) trial.slot l new Memory
-list_reason trial asks turn l new s lacks =
-    let is = ap (λ r. r.text) (rooms_needed trial.refused (birth_at l.heap l.error_dictionary)
+    → IsReason (needs_in attempt asks turn l s) attempt.slot l new Memory
+list_reason attempt asks turn l new s lacks =
+    let is = ap (λ r. r.text) (rooms_needed attempt.refused (birth_at l.heap l.error_dictionary)
     (scene_of l s) (asks l s) (turn l s)) in
     inr (inr (inr (inl (omega (arith, lacks, is)))))
 

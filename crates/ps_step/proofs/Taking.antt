@@ -8,7 +8,7 @@ use Rattle.ps_ops_control.specs.declared.frames.Source.{Source}
 use Rattle.ps_ops_control.specs.declared.frames.Frame.{Frame}
 use Rattle.ps_ops_control.specs.declared.frames.Frame.TheVariants.{Text}
 use Rattle.ps_ops_control.specs.Frames.{IsSourceAt, AreFrames, AreFramesWithin}
-use Rattle.ps_ops_state.specs.declared.lent.Trial.{Trial}
+use Rattle.ps_ops_state.specs.declared.lent.Attempt.{Attempt}
 use Rattle.ps_ops_state.specs.Acts.{Asked}
 use Rattle.ps_ops_state.specs.Lent.{Lent, IsShown, IsGood}
 use Rattle.ps_step_outcome.specs.declared.turned.Turned.{Turned}
@@ -50,7 +50,7 @@ module _ (l : Lent) (source : Source) (at : ℕ) (below : List Frame)
 
     -- a turn of the token over the text that goes on is the text's
     module _ (asks : Asks) (further : IsSourceAt l.heap (length l.program) source end)
-        (good : IsGood l) (trial : Trial) where
+        (good : IsGood l) (attempt : Attempt) where
       abbrev pub behind : Lent
       behind = restacked l l.operands (Text source end ∷ below)
 
@@ -66,16 +66,16 @@ module _ (l : Lent) (source : Source) (at : ℕ) (below : List Frame)
           (further_good end further good)
 
       pub token_goes : (turned : Turned) (new : Lent)
-          → Turns (token_asks asks token) (token_turn token) trial (Ok turned) behind new
-          → Turns asked running_turn trial (Ok turned) l new
+          → Turns (token_asks asks token) (token_turn token) attempt (Ok turned) behind new
+          → Turns asked running_turn attempt (Ok turned) l new
       token_goes =
           composes l l.operands (Text source end ∷ below) asked (token_asks asks token) running_turn
-          (token_turn token) trial IsShown behind_shown token_is (token_asked asks)
+          (token_turn token) attempt IsShown behind_shown token_is (token_asked asks)
 
       -- not made; the frame is put back
       pub token_unmade : (reason : Reason) (new : Lent)
-          → Turns (token_asks asks token) (token_turn token) trial (Err reason) behind new
-          → Turns asked running_turn trial (Err reason) l (record new { frames = l.frames })
+          → Turns (token_asks asks token) (token_turn token) attempt (Err reason) behind new
+          → Turns asked running_turn attempt (Err reason) l (record new { frames = l.frames })
       token_unmade =
           unmade_over l (Text source end ∷ below) asked (token_asks asks token) running_turn
-          (token_turn token) trial IsShown behind_shown token_is (token_asked asks) good
+          (token_turn token) attempt IsShown behind_shown token_is (token_asked asks) good

@@ -12,7 +12,7 @@ use Rattle.ps_scan.specs.Shown.{token_of}
 use Rattle.ps_ops_control.specs.declared.frames.Source.{Source}
 use Rattle.ps_ops_control.specs.declared.frames.Frame.TheVariants.{Text}
 use Rattle.ps_ops_control.specs.Frames.{IsSourceAt}
-use Rattle.ps_ops_state.specs.declared.lent.Trial.{Trial}
+use Rattle.ps_ops_state.specs.declared.lent.Attempt.{Attempt}
 use Rattle.ps_ops_state.specs.Lent.{Lent, IsGood, IsShown}
 use Rattle.ps_step_outcome.specs.declared.turned.Turned.TheVariants.{Goes}
 use Rattle.ps_step_outcome.specs.Turns.{Turns}
@@ -23,8 +23,8 @@ use Rattle.ps_step_tokens.specs.Tokens.{token_asks, token_turn}
 use Rattle.ps_step_tokens.specs.Words.{IsDoneAs}
 use Rattle.ps_step.specs.declared.tokens.Read.{Read}
 use Rattle.ps_step.specs.declared.tokens.Read.TheVariants.{Done, Treats, Left}
-use Rattle.ps_step.specs.declared.texts.Taken.{Taken}
-use Rattle.ps_step.specs.declared.texts.Taken.TheVariants.{Done as Further, Turned}
+use Rattle.ps_step.specs.declared.texts.TokenTaken.{TokenTaken}
+use Rattle.ps_step.specs.declared.texts.TokenTaken.TheVariants.{Done as Further, Turned}
 use Rattle.ps_step.specs.Texts.{scan_at, text_asks, bytes_scanned, Scans, IsTaken}
 
 -- the text that is the topmost frame was read up to a place
@@ -36,9 +36,9 @@ read_to source at l = with_frames (Text source at ∷ drop 1 l.frames) l
 abbrev pub DoesToken : Asks → Heap → (dictionaries : List Word) → (names : List (List ℕ))
     → language.Token → (old new : List Word) → Type 0
 DoesToken asks heap dictionaries names token old new =
-    (l : Lent) (trial : Trial) → l.names ≡ names
+    (l : Lent) (attempt : Attempt) → l.names ≡ names
     → IsGood (record (among heap dictionaries l) { operands = old })
-    → Turns (token_asks asks token) (token_turn token) trial (Ok Goes)
+    → Turns (token_asks asks token) (token_turn token) attempt (Ok Goes)
     (record (among heap dictionaries l) { operands = old })
     (record (among heap dictionaries l) { operands = new })
 
@@ -72,12 +72,12 @@ pub record IsRead (asks : Asks) (source : Source) (at : ℕ) (word value : Word)
 
 -- of the text that is the topmost frame and was read up to a place a token is done, by which it is
 -- read further, before the frame is; or the turn came to that
-abbrev pub Takes : Asks → Source → (at : ℕ) → Trial → Taken → (old new : Lent) → Type 0
-Takes asks source at trial (Further end) old new = (new.frames ≡ old.frames)
-    × Turns (text_asks asks source at (drop 1 old.frames)) running_turn trial (Ok Goes)
+abbrev pub Takes : Asks → Source → (at : ℕ) → Attempt → TokenTaken → (old new : Lent) → Type 0
+Takes asks source at attempt (Further end) old new = (new.frames ≡ old.frames)
+    × Turns (text_asks asks source at (drop 1 old.frames)) running_turn attempt (Ok Goes)
     (read_to source at old) (read_to source end new)
-Takes asks source at trial (Turned result) old new =
-    Turns (text_asks asks source at (drop 1 old.frames)) running_turn trial result
+Takes asks source at attempt (Turned result) old new =
+    Turns (text_asks asks source at (drop 1 old.frames)) running_turn attempt result
     (read_to source at old) new
 
 -- ---- a number or a name

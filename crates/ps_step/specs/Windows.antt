@@ -11,8 +11,8 @@ use Rattle.ps_scan.specs.declared.tokens.Token.{Token}
 use Rattle.ps_scan.specs.Shown.{token_of}
 use Rattle.ps_ops_control.specs.declared.frames.Source.{Source}
 use Rattle.ps_ops_control.specs.declared.frames.Source.TheVariants.{Program, Text}
-use Rattle.ps_step.specs.declared.texts.Taken.{Taken}
-use Rattle.ps_step.specs.declared.texts.Taken.TheVariants.{Done, Turned}
+use Rattle.ps_step.specs.declared.texts.TokenTaken.{TokenTaken}
+use Rattle.ps_step.specs.declared.texts.TokenTaken.TheVariants.{Done, Turned}
 
 -- in every store that the memory shows the list is so many bytes of a string, from a place on
 abbrev pub AreRead : Heap → (address start : ℕ) → List ℕ → Type 0
@@ -36,6 +36,6 @@ StandsBehind part at start list token =
     ≡ found (token_of list token.kind) token.end
 
 -- of what was done by operands alone
-abbrev pub OnDone : Taken → Type 0 → Type 0
+abbrev pub OnDone : TokenTaken → Type 0 → Type 0
 OnDone (Done end) holds = holds
 OnDone (Turned turn) holds = ⊤

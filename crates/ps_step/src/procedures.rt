@@ -2,7 +2,7 @@
 //! that they enter, and those of the procedure below where one ends (PLRM2, 3.5).
 
 ghost use Rattle.std.specs.Prelude.{◌≡◌, ◌∷◌, ◌+◌, ◌<◌, ◌≤◌, ◌^◌, IsSome, IsNone, length, min};
-ghost use Rattle.ps_ops_state.specs.Lent.{lent, IsGood};
+ghost use Rattle.ps_ops_state.specs.Lent.{lent_of, IsGood};
 ghost use Rattle.ps_step_interpreter.specs.Makes.{Runs};
 ghost use Rattle.ps_step_frames.specs.Steps.{above, part_behind, IsElement};
 ghost use Rattle.ps_step.specs.Elements.{ComesBy};
@@ -12,7 +12,7 @@ use crate::elements::{First, do_first};
 use ps_mem::{Memory, Slot};
 use ps_ops_control::frames::{Frame, Frames, push_frame};
 use ps_ops_operands::failure::NotMade;
-use ps_ops_state::lent::{Context, Shared, Trial};
+use ps_ops_state::lent::{Attempt, Context, Runtime};
 use ps_stacks::FRAME_LIMIT;
 use ps_step_execute::operates::Operate;
 use ps_step_execute::under::Under;
@@ -56,27 +56,27 @@ fn do_known<O: Operate, M: Memory>(
     first: Element,
     operators: &O,
     context: &mut Context,
-    shared: &mut Shared,
-    memory: &mut M,
+    runtime: &mut Runtime<M>,
     slot: Slot,
 ) -> Option<Result<Turned, NotMade>>
     requires good { IsGood (above rest
-        (lent (M.heap memory.old) (M.grants memory.old) context.old shared.old)) }
+        (lent_of M.heap M.grants context.old runtime.old)) }
     requires room { length context.old.frames < 250 }
-    requires first { IsElement O.asks (M.heap memory.old) context.old.dictionaries rest 0 first }
+    requires first { IsElement O.asks (M.heap runtime.old.memory) context.old.dictionaries rest 0
+        first }
     ensures { ComesBy (own_asks O.asks) slot result rest
-        (lent (M.heap memory.old) (M.grants memory.old) context.old shared.old)
-        (lent (M.heap memory.new) (M.grants memory.new) context.new shared.new) }
+        (lent_of M.heap M.grants context.old runtime.old)
+        (lent_of M.heap M.grants context.new runtime.new) }
 {
-    let trial = Trial {
+    let attempt = Attempt {
         slot,
         refused: false,
     };
     let known = Some(first);
-    match element_under(rest, known, operators, context, shared, memory, slot) {
+    match element_under(rest, known, operators, context, runtime, slot) {
         Under::Done => None,
-        Under::Fails => Some(pushed_turn(rest, None, operators, context, shared, memory, trial)),
-        Under::Left => Some(pushed_turn(rest, known, operators, context, shared, memory, trial)),
+        Under::Fails => Some(pushed_turn(rest, None, operators, context, runtime, attempt)),
+        Under::Left => Some(pushed_turn(rest, known, operators, context, runtime, attempt)),
     }
 }
 
@@ -117,19 +117,18 @@ pub fn run_entered<O: Operate, M: Memory>(
     most: u32,
     operators: &O,
     context: &mut Context,
-    shared: &mut Shared,
-    memory: &mut M,
+    runtime: &mut Runtime<M>,
     slot: Slot,
 ) -> Run
     requires good { IsGood (above entered
-        (lent (M.heap memory.old) (M.grants memory.old) context.old shared.old)) }
+        (lent_of M.heap M.grants context.old runtime.old)) }
     requires room { 2 + length context.old.frames ≤ 250 }
     ensures within { result.made ≤ most }
     ensures fewer { IsSome result.next → result.made < most }
     ensures more { IsNone result.next → 1 ≤ most → 1 ≤ result.made }
     ensures runs { Runs (own_asks O.asks) slot result.made result.next (above entered
-        (lent (M.heap memory.old) (M.grants memory.old) context.old shared.old))
-        (lent (M.heap memory.new) (M.grants memory.new) context.new shared.new) }
+        (lent_of M.heap M.grants context.old runtime.old))
+        (lent_of M.heap M.grants context.new runtime.new) }
 {
     let mut rest = entered;
     let mut left = most;
@@ -137,7 +136,14 @@ pub fn run_entered<O: Operate, M: Memory>(
     while end > 0 {
         let dictionaries = &context.dictionaries;
         let operands = &mut context.operands;
-        match do_first(rest, end, operators, dictionaries, operands, memory) {
+        match do_first(
+            rest,
+            end,
+            operators,
+            dictionaries,
+            operands,
+            &mut runtime.memory,
+        ) {
             First::All => {
                 left -= end as u32;
                 rest = left_of(rest, end);
@@ -158,7 +164,7 @@ pub fn run_entered<O: Operate, M: Memory>(
             }
             First::Treats { done, element } => {
                 let behind = left_of(rest, done);
-                let known = do_known(behind, element, operators, context, shared, memory, slot);
+                let known = do_known(behind, element, operators, context, runtime, slot);
                 if known.is_some() {
                     return Run {
                         made: most - left + done as u32,
@@ -170,12 +176,12 @@ pub fn run_entered<O: Operate, M: Memory>(
                 end -= done + 1;
             }
             First::Left { done } => {
-                let trial = Trial {
+                let attempt = Attempt {
                     slot,
                     refused: false,
                 };
                 let behind = left_of(rest, done);
-                let turn = pushed_turn(behind, None, operators, context, shared, memory, trial);
+                let turn = pushed_turn(behind, None, operators, context, runtime, attempt);
                 return Run {
                     made: most - left + done as u32,
                     next: Some(turn),

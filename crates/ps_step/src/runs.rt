@@ -4,7 +4,7 @@
 ghost use Rattle.std.specs.Prelude.{◌≡◌, ◌≢◌, ℕ, ◌+◌, ◌<◌, ◌≤◌, [], IfSome, IsSome, IsNone, Some};
 ghost use Rattle.std.specs.Prelude.{None};
 ghost use Rattle.ps_stacks.specs.Tops.{first_of};
-ghost use Rattle.ps_ops_state.specs.Lent.{lent, Lent, IsGood};
+ghost use Rattle.ps_ops_state.specs.Lent.{lent, lent_of, IsGood, Lent};
 ghost use Rattle.ps_step_outcome.specs.Turns.{Turns};
 ghost use Rattle.ps_step_interpreter.specs.Interprets.{asks_in, own_turn};
 ghost use Rattle.ps_step_interpreter.specs.Makes.{Runs, TurnsBehind};
@@ -14,13 +14,13 @@ ghost use Rattle.ps_step.specs.Steps.{own_asks};
 
 use crate::procedures::run_entered;
 use crate::sources::read_source;
-use crate::texts::{Taken, read_token, text_turn};
+use crate::texts::{TokenTaken, read_token, text_turn};
 use ps_mem::{Memory, Slot};
 use ps_ops_control::ahead::Ahead;
 use ps_ops_control::frames::{Cause, Frame, Frames, Source, replace_top};
 use ps_ops_control::unwinding::frames_to_loop;
 use ps_ops_operands::failure::NotMade;
-use ps_ops_state::lent::{Context, Shared, Trial};
+use ps_ops_state::lent::{Attempt, Context, Runtime, Shared};
 use ps_step_execute::operates::Operate;
 use ps_step_frames::ahead::turn_ahead;
 use ps_step_frames::frames::drop_top;
@@ -36,25 +36,23 @@ pub fn turn_frame<O: Operate, M: Memory>(
     text: &mut Vec<u8>,
     operators: &O,
     context: &mut Context,
-    shared: &mut Shared,
-    memory: &mut M,
-    trial: Trial,
+    runtime: &mut Runtime<M>,
+    attempt: Attempt,
 ) -> Result<Turned, NotMade>
-    requires good { IsGood
-        (lent (M.heap memory.old) (M.grants memory.old) context.old shared.old) }
+    requires good { IsGood (lent_of M.heap M.grants context.old runtime.old) }
     requires framed { context.old.frames ≢ [] }
-    ensures { Turns (asks_in (own_asks O.asks) None) (own_turn None) trial result
-        (lent (M.heap memory.old) (M.grants memory.old) context.old shared.old)
-        (lent (M.heap memory.new) (M.grants memory.new) context.new shared.new) }
+    ensures { Turns (asks_in (own_asks O.asks) None) (own_turn None) attempt result
+        (lent_of M.heap M.grants context.old runtime.old)
+        (lent_of M.heap M.grants context.new runtime.new) }
 {
     let Some(top) = context.frames.top() else {
         unreachable!()
     };
     match top {
         Frame::Text { source, at } => text_turn(
-            source, at, text, operators, context, shared, memory, trial,
+            source, at, text, operators, context, runtime, attempt,
         ),
-        _ => frame_turn(top, operators, context, shared, memory, trial),
+        _ => frame_turn(top, operators, context, runtime, attempt),
     }
 }
 
@@ -110,24 +108,29 @@ fn run_text<O: Operate, M: Memory>(
     text: &mut Vec<u8>,
     operators: &O,
     context: &mut Context,
-    shared: &mut Shared,
-    memory: &mut M,
+    runtime: &mut Runtime<M>,
 ) -> Run
-    requires good { IsGood
-        (lent (M.heap memory.old) (M.grants memory.old) context.old shared.old) }
+    requires good { IsGood (lent_of M.heap M.grants context.old runtime.old) }
     requires some { 1 ≤ most }
     requires top { first_of context.old.frames ≡ Some (Frame.Text source at) }
     ensures within { result.made ≤ most }
     ensures fewer { IsSome result.next → result.made < most }
     ensures more { IsNone result.next → 1 ≤ result.made }
     ensures runs { Runs (own_asks O.asks) slot result.made result.next
-        (lent (M.heap memory.old) (M.grants memory.old) context.old shared.old)
-        (lent (M.heap memory.new) (M.grants memory.new) context.new shared.new) }
+        (lent_of M.heap M.grants context.old runtime.old)
+        (lent_of M.heap M.grants context.new runtime.new) }
 {
     let mut place = at;
     let mut start = 0;
     let mut made = 0;
-    read_source(source, at, shared.program, &mut start, text, memory);
+    read_source(
+        source,
+        at,
+        runtime.shared.program,
+        &mut start,
+        text,
+        &mut runtime.memory,
+    );
     while made < most {
         match read_token(
             &source,
@@ -136,18 +139,17 @@ fn run_text<O: Operate, M: Memory>(
             text,
             operators,
             context,
-            shared,
-            memory,
-            Trial {
+            runtime,
+            Attempt {
                 slot,
                 refused: false,
             },
         ) {
-            Taken::Done(end) => {
+            TokenTaken::Done(end) => {
                 place = end;
                 made += 1;
             }
-            Taken::Turned(turn) => return with_turn(made, turn, most, &mut context.frames),
+            TokenTaken::Turned(turn) => return with_turn(made, turn, most, &mut context.frames),
         }
     }
     replace_top(&mut context.frames, Frame::Text { source, at: place });
@@ -164,33 +166,31 @@ pub fn run_turns<O: Operate, M: Memory>(
     text: &mut Vec<u8>,
     operators: &O,
     context: &mut Context,
-    shared: &mut Shared,
-    memory: &mut M,
+    runtime: &mut Runtime<M>,
 ) -> Run
-    requires good { IsGood
-        (lent (M.heap memory.old) (M.grants memory.old) context.old shared.old) }
+    requires good { IsGood (lent_of M.heap M.grants context.old runtime.old) }
     requires some { 1 ≤ most }
     requires framed { context.old.frames ≢ [] }
     ensures within { result.made ≤ most }
     ensures fewer { IsSome result.next → result.made < most }
     ensures more { IsNone result.next → 1 ≤ result.made }
     ensures runs { Runs (own_asks O.asks) slot result.made result.next
-        (lent (M.heap memory.old) (M.grants memory.old) context.old shared.old)
-        (lent (M.heap memory.new) (M.grants memory.new) context.new shared.new) }
+        (lent_of M.heap M.grants context.old runtime.old)
+        (lent_of M.heap M.grants context.new runtime.new) }
 {
     let Some(top) = context.frames.top() else {
         unreachable!()
     };
     match top {
         Frame::Text { source, at } => run_text(
-            source, at, most, slot, text, operators, context, shared, memory,
+            source, at, most, slot, text, operators, context, runtime,
         ),
         _ => {
-            let trial = Trial {
+            let attempt = Attempt {
                 slot,
                 refused: false,
             };
-            let turn = turn_frame(text, operators, context, shared, memory, trial);
+            let turn = turn_frame(text, operators, context, runtime, attempt);
             with_turn(0, turn, most, &mut context.frames)
         }
     }
@@ -255,30 +255,28 @@ fn run_frame<O: Operate, M: Memory>(
     slot: Slot,
     operators: &O,
     context: &mut Context,
-    shared: &mut Shared,
-    memory: &mut M,
+    runtime: &mut Runtime<M>,
 ) -> Option<Run>
-    requires good { IsGood
-        (lent (M.heap memory.old) (M.grants memory.old) context.old shared.old) }
+    requires good { IsGood (lent_of M.heap M.grants context.old runtime.old) }
     requires some { 1 ≤ most }
     requires framed { context.old.frames ≢ [] }
     ensures left { IsNone result
-        → lent (M.heap memory.new) (M.grants memory.new) context.new shared.new
-        ≡ lent (M.heap memory.old) (M.grants memory.old) context.old shared.old }
+        → lent_of M.heap M.grants context.new runtime.new
+        ≡ lent_of M.heap M.grants context.old runtime.old }
     ensures within { IfSome result (λ run. run.made ≤ most) }
     ensures fewer { IfSome result (λ run. IsSome run.next → run.made < most) }
     ensures more { IfSome result (λ run. IsNone run.next → 1 ≤ run.made) }
     ensures runs { IfSome result (λ run. Runs (own_asks O.asks) slot run.made run.next
-        (lent (M.heap memory.old) (M.grants memory.old) context.old shared.old)
-        (lent (M.heap memory.new) (M.grants memory.new) context.new shared.new)) }
+        (lent_of M.heap M.grants context.old runtime.old)
+        (lent_of M.heap M.grants context.new runtime.new)) }
 {
     let Some(top) = context.frames.top() else {
         unreachable!()
     };
-    match begin_with(top, context, shared, memory) {
+    match begin_with(top, context, &runtime.shared, &mut runtime.memory) {
         Begin::Enters { rest, made } => {
             let left = most - made;
-            let run = run_entered(rest, left, operators, context, shared, memory, slot);
+            let run = run_entered(rest, left, operators, context, runtime, slot);
             Some(Run {
                 made: made + run.made,
                 next: run.next,
@@ -300,20 +298,18 @@ pub fn run_ahead<O: Operate, M: Memory>(
     slot: Slot,
     operators: &O,
     context: &mut Context,
-    shared: &mut Shared,
-    memory: &mut M,
+    runtime: &mut Runtime<M>,
 ) -> Run
-    requires good { IsGood
-        (lent (M.heap memory.old) (M.grants memory.old) context.old shared.old) }
+    requires good { IsGood (lent_of M.heap M.grants context.old runtime.old) }
     ensures within { result.made ≤ most }
     ensures fewer { IsSome result.next → result.made < most }
     ensures runs { Runs (own_asks O.asks) slot result.made result.next
-        (lent (M.heap memory.old) (M.grants memory.old) context.old shared.old)
-        (lent (M.heap memory.new) (M.grants memory.new) context.new shared.new) }
+        (lent_of M.heap M.grants context.old runtime.old)
+        (lent_of M.heap M.grants context.new runtime.new) }
 {
     let mut made = 0;
     while made < most && context.frames.len() > 0 {
-        let Some(run) = run_frame(most - made, slot, operators, context, shared, memory) else {
+        let Some(run) = run_frame(most - made, slot, operators, context, runtime) else {
             return Run { made, next: None };
         };
         made += run.made;

@@ -7,7 +7,7 @@ use crate::runs::{run_ahead, run_turns, turn_frame};
 use ps_mem::{Memory, Slot};
 use ps_ops_control::frames::Cause;
 use ps_ops_operands::failure::NotMade;
-use ps_ops_state::lent::{Context, Shared, Trial};
+use ps_ops_state::lent::{Attempt, Context, Runtime};
 use ps_step_execute::operates::Operate;
 use ps_step_frames::unwindings::unwind_turn;
 use ps_step_interpreter::interprets::{Interpret, Run};
@@ -31,23 +31,15 @@ impl<O: Operate> Interpret for Steps<O> {
         &mut self,
         unwinding: Option<Cause>,
         context: &mut Context,
-        shared: &mut Shared,
-        memory: &mut M,
-        trial: Trial,
+        runtime: &mut Runtime<M>,
+        attempt: Attempt,
     ) -> Result<Turned, NotMade> {
         let Some(top) = context.frames.top() else {
             unreachable!()
         };
         match unwinding {
-            Some(cause) => unwind_turn(cause, top, context, shared, memory, trial),
-            None => turn_frame(
-                &mut self.text,
-                &self.operators,
-                context,
-                shared,
-                memory,
-                trial,
-            ),
+            Some(cause) => unwind_turn(cause, top, context, runtime, attempt),
+            None => turn_frame(&mut self.text, &self.operators, context, runtime, attempt),
         }
     }
 
@@ -58,13 +50,12 @@ impl<O: Operate> Interpret for Steps<O> {
         most: u32,
         slot: Slot,
         context: &mut Context,
-        shared: &mut Shared,
-        memory: &mut M,
+        runtime: &mut Runtime<M>,
     ) -> Run {
         let Steps { operators, text } = self;
         let mut made = 0;
         while made < most && context.frames.len() > 0 {
-            let run = run_ahead(most - made, slot, operators, context, shared, memory);
+            let run = run_ahead(most - made, slot, operators, context, runtime);
             made += run.made;
             if run.next.is_some() {
                 return Run {
@@ -78,7 +69,7 @@ impl<O: Operate> Interpret for Steps<O> {
             if context.frames.len() == 0 {
                 return Run { made, next: None };
             }
-            let run = run_turns(most - made, slot, text, operators, context, shared, memory);
+            let run = run_turns(most - made, slot, text, operators, context, runtime);
             made += run.made;
             if run.next.is_some() {
                 return Run {

@@ -2,7 +2,7 @@
 
 ghost use Rattle.std.specs.Prelude.{◌≡◌, ℕ, ◌<◌, ◌≤◌, ◌+◌, ◌-◌, ◌^◌, ⊤, drop, length, Some};
 ghost use Rattle.ps_language.specs.Token.{found};
-ghost use Rattle.ps_ops_state.specs.Lent.{lent, IsGood, IsShown};
+ghost use Rattle.ps_ops_state.specs.Lent.{lent_of, IsGood, IsShown};
 ghost use Rattle.ps_ops_control.specs.Frames.{IsSourceAt, source_of};
 ghost use Rattle.ps_mem.specs.Heap.{birth_at};
 ghost use Rattle.ps_language.specs.Value.{Store};
@@ -23,7 +23,7 @@ use ps_mem::Memory;
 use ps_ops_control::frames::{Frame, Source, replace_top};
 use ps_ops_operands::failure::NotMade;
 use ps_ops_operands::plain;
-use ps_ops_state::lent::{Context, Shared, Trial};
+use ps_ops_state::lent::{Attempt, Context, Runtime};
 use ps_scan::{ScanFault, Token, TokenKind};
 use ps_step_execute::operates::Operate;
 use ps_step_execute::values::treat;
@@ -45,28 +45,27 @@ fn take_token<O: Operate, M: Memory>(
     text: &[u8],
     operators: &O,
     context: &mut Context,
-    shared: &mut Shared,
-    memory: &mut M,
-    trial: Trial,
+    runtime: &mut Runtime<M>,
+    attempt: Attempt,
 ) -> Result<Turned, NotMade>
-    requires good { IsGood
-        (lent (M.heap memory.old) (M.grants memory.old) context.old shared.old) }
+    requires good { IsGood (lent_of M.heap M.grants context.old runtime.old) }
     requires top { first_of context.old.frames ≡ Some (Frame.Text source at) }
     requires short { IsShort (token_of text.now kind.now) }
-    requires further { IsSourceAt (M.heap memory.old) (length shared.old.program.now) source end }
+    requires further { IsSourceAt (M.heap runtime.old.memory)
+        (length runtime.old.shared.program.now) source end }
     requires scanned { (s : Store) → IsShown
-        (lent (M.heap memory.old) (M.grants memory.old) context.old shared.old) s
+        (lent_of M.heap M.grants context.old runtime.old) s
         → scan_at source at
-        (lent (M.heap memory.old) (M.grants memory.old) context.old shared.old) s
+        (lent_of M.heap M.grants context.old runtime.old) s
         ≡ found (token_of text.now kind.now) end }
     ensures { Turns (λ l s.
         scanned_asks O.asks source (drop 1 context.old.frames) (scan_at source at l s) l s)
-        running_turn trial result
-        (lent (M.heap memory.old) (M.grants memory.old) context.old shared.old)
-        (lent (M.heap memory.new) (M.grants memory.new) context.new shared.new) }
+        running_turn attempt result
+        (lent_of M.heap M.grants context.old runtime.old)
+        (lent_of M.heap M.grants context.new runtime.new) }
 {
     replace_top(&mut context.frames, Frame::Text { source, at: end });
-    match do_token(kind, text, operators, context, shared, memory, trial) {
+    match do_token(kind, text, operators, context, runtime, attempt) {
         Ok(turned) => Ok(turned),
         Err(reason) => {
             replace_top(&mut context.frames, Frame::Text { source, at });
@@ -84,40 +83,36 @@ fn fault_turn<O: Operate, M: Memory>(
     at: usize,
     fault: ScanFault,
     context: &mut Context,
-    shared: &mut Shared,
-    memory: &mut M,
-    trial: Trial,
+    runtime: &mut Runtime<M>,
+    attempt: Attempt,
 ) -> Result<Turned, NotMade>
-    requires good { IsGood
-        (lent (M.heap memory.old) (M.grants memory.old) context.old shared.old) }
+    requires good { IsGood (lent_of M.heap M.grants context.old runtime.old) }
     requires top { first_of context.old.frames ≡ Some (Frame.Text source at) }
     requires fault { (s : Store) → IsShown
-        (lent (M.heap memory.old) (M.grants memory.old) context.old shared.old) s
+        (lent_of M.heap M.grants context.old runtime.old) s
         → let outcome = scan_at source at
-        (lent (M.heap memory.old) (M.grants memory.old) context.old shared.old) s in
-        IsFaulty (Starves (source_of (birth_at (M.heap memory.old)) source) outcome) fault
+        (lent_of M.heap M.grants context.old runtime.old) s in
+        IsFaulty (Starves (source_of (birth_at (M.heap runtime.old.memory)) source) outcome) fault
         outcome }
-    ensures { Turns (text_asks O.asks source at (drop 1 context.old.frames)) running_turn trial
+    ensures { Turns (text_asks O.asks source at (drop 1 context.old.frames)) running_turn attempt
         result
-        (lent (M.heap memory.old) (M.grants memory.old) context.old shared.old)
-        (lent (M.heap memory.new) (M.grants memory.new) context.new shared.new) }
+        (lent_of M.heap M.grants context.old runtime.old)
+        (lent_of M.heap M.grants context.new runtime.new) }
 {
     match fault {
         ScanFault::Syntax => raise(
             ErrorName::SyntaxError,
             plain::null(),
             context,
-            shared,
-            memory,
-            trial,
+            runtime,
+            attempt,
         ),
         ScanFault::Limit => raise(
             ErrorName::LimitCheck,
             plain::null(),
             context,
-            shared,
-            memory,
-            trial,
+            runtime,
+            attempt,
         ),
         ScanFault::Memory => Err(NotMade::Memory),
     }
@@ -137,26 +132,27 @@ fn scanned_turn<O: Operate, M: Memory>(
     text: &[u8],
     operators: &O,
     context: &mut Context,
-    shared: &mut Shared,
-    memory: &mut M,
-    trial: Trial,
+    runtime: &mut Runtime<M>,
+    attempt: Attempt,
 ) -> Result<Turned, NotMade>
-    requires good { IsGood
-        (lent (M.heap memory.old) (M.grants memory.old) context.old shared.old) }
+    requires good { IsGood (lent_of M.heap M.grants context.old runtime.old) }
     requires top { first_of context.old.frames ≡ Some (Frame.Text source.now at) }
     requires scanned { (s : Store) → IsShown
-        (lent (M.heap memory.old) (M.grants memory.old) context.old shared.old) s
+        (lent_of M.heap M.grants context.old runtime.old) s
         → let outcome = scan_at source.now at
-        (lent (M.heap memory.old) (M.grants memory.old) context.old shared.old) s in
-        IsScanned (Starves (source_of (birth_at (M.heap memory.old)) source.now) outcome) text.now
+        (lent_of M.heap M.grants context.old runtime.old) s in
+        IsScanned (Starves (source_of (birth_at (M.heap runtime.old.memory)) source.now) outcome)
+        text.now
         scanned outcome }
     requires token { IsTaken
-        (IsSourceAt (M.heap memory.old) (length shared.old.program.now) source.now) text.now
+        (IsSourceAt (M.heap runtime.old.memory) (length runtime.old.shared.program.now) source.now)
+        text.now
         scanned }
-    ensures { Turns (text_asks O.asks source.now at (drop 1 context.old.frames)) running_turn trial
+    ensures { Turns (text_asks O.asks source.now at (drop 1 context.old.frames)) running_turn
+        attempt
         result
-        (lent (M.heap memory.old) (M.grants memory.old) context.old shared.old)
-        (lent (M.heap memory.new) (M.grants memory.new) context.new shared.new) }
+        (lent_of M.heap M.grants context.old runtime.old)
+        (lent_of M.heap M.grants context.new runtime.new) }
 {
     match scanned {
         Ok(None) => {
@@ -171,17 +167,16 @@ fn scanned_turn<O: Operate, M: Memory>(
             text,
             operators,
             context,
-            shared,
-            memory,
-            trial,
+            runtime,
+            attempt,
         ),
-        Err(fault) => fault_turn::<O, M>(*source, at, fault, context, shared, memory, trial),
+        Err(fault) => fault_turn::<O, M>(*source, at, fault, context, runtime, attempt),
     }
 }
 
 /// What the next token of a text came to.
 #[derive(Clone, Copy, Debug)]
-pub enum Taken {
+pub enum TokenTaken {
     /// It was done by operands alone, and ends at this place.
     Done(usize),
     /// The turn came to this.
@@ -201,26 +196,26 @@ fn treat_token<O: Operate, M: Memory>(
     value: Word,
     operators: &O,
     context: &mut Context,
-    shared: &mut Shared,
-    memory: &mut M,
-    trial: Trial,
+    runtime: &mut Runtime<M>,
+    attempt: Attempt,
 ) -> Result<Turned, NotMade>
     requires framed { 1 ≤ length context.old.frames }
     requires good { IsGood (read_to source.now at
-        (lent (M.heap memory.old) (M.grants memory.old) context.old shared.old)) }
+        (lent_of M.heap M.grants context.old runtime.old)) }
     requires read { IsRead O.asks source.now at word value end (read_to source.now at
-        (lent (M.heap memory.old) (M.grants memory.old) context.old shared.old)) }
-    ensures { Turns (text_asks O.asks source.now at (drop 1 context.old.frames)) running_turn trial
+        (lent_of M.heap M.grants context.old runtime.old)) }
+    ensures { Turns (text_asks O.asks source.now at (drop 1 context.old.frames)) running_turn
+        attempt
         result (read_to source.now at
-        (lent (M.heap memory.old) (M.grants memory.old) context.old shared.old))
-        (lent (M.heap memory.new) (M.grants memory.new) context.new shared.new) }
+        (lent_of M.heap M.grants context.old runtime.old))
+        (lent_of M.heap M.grants context.new runtime.new) }
 {
     let behind = Frame::Text {
         source: *source,
         at: end,
     };
     replace_top(&mut context.frames, behind);
-    match treat(value, word, operators, context, shared, memory, trial) {
+    match treat(value, word, operators, context, runtime, attempt) {
         Ok(turned) => Ok(turned),
         Err(reason) => {
             let before = Frame::Text {
@@ -243,37 +238,38 @@ fn take_scanned<O: Operate, M: Memory>(
     text: &[u8],
     operators: &O,
     context: &mut Context,
-    shared: &mut Shared,
-    memory: &mut M,
-    trial: Trial,
-) -> Taken
+    runtime: &mut Runtime<M>,
+    attempt: Attempt,
+) -> TokenTaken
     requires framed { 1 ≤ length context.old.frames }
     requires good { IsGood (read_to source.now at
-        (lent (M.heap memory.old) (M.grants memory.old) context.old shared.old)) }
+        (lent_of M.heap M.grants context.old runtime.old)) }
     requires scanned { (s : Store) → IsShown (read_to source.now at
-        (lent (M.heap memory.old) (M.grants memory.old) context.old shared.old)) s
+        (lent_of M.heap M.grants context.old runtime.old)) s
         → let outcome = scan_at source.now at
-        (lent (M.heap memory.old) (M.grants memory.old) context.old shared.old) s in
-        IsScanned (Starves (source_of (birth_at (M.heap memory.old)) source.now) outcome) text.now
+        (lent_of M.heap M.grants context.old runtime.old) s in
+        IsScanned (Starves (source_of (birth_at (M.heap runtime.old.memory)) source.now) outcome)
+        text.now
         scanned outcome }
     requires token { IsTaken
-        (IsSourceAt (M.heap memory.old) (length shared.old.program.now) source.now) text.now
+        (IsSourceAt (M.heap runtime.old.memory) (length runtime.old.shared.program.now) source.now)
+        text.now
         scanned }
-    ensures takes { Takes O.asks source.now at trial result
-        (lent (M.heap memory.old) (M.grants memory.old) context.old shared.old)
-        (lent (M.heap memory.new) (M.grants memory.new) context.new shared.new) }
-    ensures heap { OnDone result (M.heap memory.new ≡ M.heap memory.old) }
+    ensures takes { Takes O.asks source.now at attempt result
+        (lent_of M.heap M.grants context.old runtime.old)
+        (lent_of M.heap M.grants context.new runtime.new) }
+    ensures heap { OnDone result (M.heap runtime.new.memory ≡ M.heap runtime.old.memory) }
 {
-    match literal_ahead(&scanned, text, &shared.names, &mut context.operands) {
-        Some(end) => Taken::Done(end),
+    match literal_ahead(&scanned, text, &runtime.shared.names, &mut context.operands) {
+        Some(end) => TokenTaken::Done(end),
         None => {
             let top = Frame::Text {
                 source: *source,
                 at,
             };
             replace_top(&mut context.frames, top);
-            Taken::Turned(scanned_turn(
-                source, at, scanned, text, operators, context, shared, memory, trial,
+            TokenTaken::Turned(scanned_turn(
+                source, at, scanned, text, operators, context, runtime, attempt,
             ))
         }
     }
@@ -289,26 +285,33 @@ fn take_next<O: Operate, M: Memory>(
     list: &mut Vec<u8>,
     operators: &O,
     context: &mut Context,
-    shared: &mut Shared,
-    memory: &mut M,
-    trial: Trial,
-) -> Taken
+    runtime: &mut Runtime<M>,
+    attempt: Attempt,
+) -> TokenTaken
     requires framed { 1 ≤ length context.old.frames }
     requires good { IsGood (read_to source.now at
-        (lent (M.heap memory.old) (M.grants memory.old) context.old shared.old)) }
-    requires window { IsWindow (M.heap memory.old) source.now start.old list.old.items }
-    ensures takes { Takes O.asks source.now at trial result
-        (lent (M.heap memory.old) (M.grants memory.old) context.old shared.old)
-        (lent (M.heap memory.new) (M.grants memory.new) context.new shared.new) }
+        (lent_of M.heap M.grants context.old runtime.old)) }
+    requires window { IsWindow (M.heap runtime.old.memory) source.now start.old list.old.items }
+    ensures takes { Takes O.asks source.now at attempt result
+        (lent_of M.heap M.grants context.old runtime.old)
+        (lent_of M.heap M.grants context.new runtime.new) }
     ensures window { OnDone result
-        (IsWindow (M.heap memory.new) source.now start.new list.new.items) }
+        (IsWindow (M.heap runtime.new.memory) source.now start.new list.new.items) }
 {
-    let alloc = *shared.scratch.text.allocator();
-    let program = shared.program;
-    let scanned = scan_source(*source, at, program, start, list, memory, alloc);
+    let alloc = *runtime.shared.scratch.text.allocator();
+    let program = runtime.shared.program;
+    let scanned = scan_source(
+        *source,
+        at,
+        program,
+        start,
+        list,
+        &mut runtime.memory,
+        alloc,
+    );
     let text = scanned_bytes(*source, program, list);
     take_scanned(
-        source, at, scanned, text, operators, context, shared, memory, trial,
+        source, at, scanned, text, operators, context, runtime, attempt,
     )
 }
 
@@ -322,24 +325,23 @@ pub fn read_token<O: Operate, M: Memory>(
     list: &mut Vec<u8>,
     operators: &O,
     context: &mut Context,
-    shared: &mut Shared,
-    memory: &mut M,
-    trial: Trial,
-) -> Taken
+    runtime: &mut Runtime<M>,
+    attempt: Attempt,
+) -> TokenTaken
     requires framed { 1 ≤ length context.old.frames }
     requires good { IsGood (read_to source.now at
-        (lent (M.heap memory.old) (M.grants memory.old) context.old shared.old)) }
-    requires window { IsWindow (M.heap memory.old) source.now start.old list.old.items }
-    ensures takes { Takes O.asks source.now at trial result
-        (lent (M.heap memory.old) (M.grants memory.old) context.old shared.old)
-        (lent (M.heap memory.new) (M.grants memory.new) context.new shared.new) }
+        (lent_of M.heap M.grants context.old runtime.old)) }
+    requires window { IsWindow (M.heap runtime.old.memory) source.now start.old list.old.items }
+    ensures takes { Takes O.asks source.now at attempt result
+        (lent_of M.heap M.grants context.old runtime.old)
+        (lent_of M.heap M.grants context.new runtime.new) }
     ensures window { OnDone result
-        (IsWindow (M.heap memory.new) source.now start.new list.new.items) }
+        (IsWindow (M.heap runtime.new.memory) source.now start.new list.new.items) }
 {
-    let program = shared.program;
+    let program = runtime.shared.program;
     let dictionaries = &context.dictionaries;
     let operands = &mut context.operands;
-    let names = &shared.names;
+    let names = &runtime.shared.names;
     match word_ahead(
         *source,
         at,
@@ -350,14 +352,14 @@ pub fn read_token<O: Operate, M: Memory>(
         dictionaries,
         names,
         operands,
-        memory,
+        &mut runtime.memory,
     ) {
-        Read::Done(end) => Taken::Done(end),
-        Read::Treats { word, value, end } => Taken::Turned(treat_token(
-            source, at, end, word, value, operators, context, shared, memory, trial,
+        Read::Done(end) => TokenTaken::Done(end),
+        Read::Treats { word, value, end } => TokenTaken::Turned(treat_token(
+            source, at, end, word, value, operators, context, runtime, attempt,
         )),
         Read::Left => take_next(
-            source, at, start, list, operators, context, shared, memory, trial,
+            source, at, start, list, operators, context, runtime, attempt,
         ),
     }
 }
@@ -375,25 +377,31 @@ pub fn text_turn<O: Operate, M: Memory>(
     list: &mut Vec<u8>,
     operators: &O,
     context: &mut Context,
-    shared: &mut Shared,
-    memory: &mut M,
-    trial: Trial,
+    runtime: &mut Runtime<M>,
+    attempt: Attempt,
 ) -> Result<Turned, NotMade>
-    requires good { IsGood
-        (lent (M.heap memory.old) (M.grants memory.old) context.old shared.old) }
+    requires good { IsGood (lent_of M.heap M.grants context.old runtime.old) }
     requires top { first_of context.old.frames ≡ Some (Frame.Text source at) }
-    ensures { Turns (text_asks O.asks source at (drop 1 context.old.frames)) running_turn trial
+    ensures { Turns (text_asks O.asks source at (drop 1 context.old.frames)) running_turn attempt
         result
-        (lent (M.heap memory.old) (M.grants memory.old) context.old shared.old)
-        (lent (M.heap memory.new) (M.grants memory.new) context.new shared.new) }
+        (lent_of M.heap M.grants context.old runtime.old)
+        (lent_of M.heap M.grants context.new runtime.new) }
 {
-    let alloc = *shared.scratch.text.allocator();
-    let program = shared.program;
+    let alloc = *runtime.shared.scratch.text.allocator();
+    let program = runtime.shared.program;
     let mut start = 0;
     list.clear();
-    let scanned = scan_source(source, at, program, &mut start, list, memory, alloc);
+    let scanned = scan_source(
+        source,
+        at,
+        program,
+        &mut start,
+        list,
+        &mut runtime.memory,
+        alloc,
+    );
     let text = scanned_bytes(source, program, list);
     scanned_turn(
-        &source, at, scanned, text, operators, context, shared, memory, trial,
+        &source, at, scanned, text, operators, context, runtime, attempt,
     )
 }

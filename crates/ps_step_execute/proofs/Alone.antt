@@ -18,7 +18,7 @@ use Rattle.ps_word.specs.declared.values.Part.{Part}
 use Rattle.ps_ops_control.specs.declared.ahead.Ahead.{Ahead}
 use Rattle.ps_ops_control.specs.declared.ahead.Ahead.TheVariants as ahead
 use Rattle.ps_ops_control.specs.Ahead.{done_ahead}
-use Rattle.ps_ops_state.specs.declared.lent.Trial.{Trial}
+use Rattle.ps_ops_state.specs.declared.lent.Attempt.{Attempt}
 use Rattle.ps_ops_state.specs.Acts.{Asked}
 use Rattle.ps_ops_state.specs.Lent.{Lent, scene_of, IsGood}
 use Rattle.ps_step_outcome.specs.declared.turned.Turned.TheVariants.{Goes}
@@ -39,14 +39,14 @@ use Rattle.ps_step_execute.proofs.Executing.{finds_value}
 pub enters_as : (some words : List Word) (asked other : Lent → Store → Asked)
     (done turn : Lent → Store → Turn)
     → ((heap : Heap) → AreValues heap words → AreValues heap some)
-    → ((l new : Lent) (trial : Trial) → TurnsWith some [] asked done trial (Ok Goes) l new
-    → TurnsWith words [] other turn trial (Ok Goes) l new)
+    → ((l new : Lent) (attempt : Attempt) → TurnsWith some [] asked done attempt (Ok Goes) l new
+    → TurnsWith words [] other turn attempt (Ok Goes) l new)
     → (came : Ahead) (old new : List Word) → EntersAlone some asked done came old new
     → EntersAlone words other turn came old new
 enters_as some words asked other done turn fewer same (ahead.Enters body) old new alone =
-    (tt, λ l trial good values room. same _ _ trial (alone.1 l trial good (fewer l.heap values) room))
+    (tt, λ l attempt good values room. same _ _ attempt (alone.1 l attempt good (fewer l.heap values) room))
 enters_as some words asked other done turn fewer same ahead.Goes old new alone =
-    (tt, λ l trial good values room. same _ _ trial (alone.1 l trial good (fewer l.heap values) room))
+    (tt, λ l attempt good values room. same _ _ attempt (alone.1 l attempt good (fewer l.heap values) room))
 enters_as some words asked other done turn fewer same ahead.Left old new alone = (alone.0, tt)
 
 -- what goes by operands alone enters none
@@ -63,15 +63,15 @@ none_entered true came is body enters = absurd (cc (is, enters))
 none_entered false came is body enters = absurd (cc (is, enters))
 
 module _ (asks : Asks) (command word : Word) where
-  pub treated_by_operator : (l new : Lent) (trial : Trial) (operator : Named)
+  pub treated_by_operator : (l new : Lent) (attempt : Attempt) (operator : Named)
       → executable_in word.0 ≡ true → content_in word.0 ≡ Operator operator
-      → TurnsWith [] [] (operated_asks asks operator) (operated_turn operator) trial (Ok Goes) l new
+      → TurnsWith [] [] (operated_asks asks operator) (operated_turn operator) attempt (Ok Goes) l new
       → TurnsWith (word ∷ command ∷ []) [] (treated_asks asks word) (treated_turn command word)
-      trial (Ok Goes) l new
-  treated_by_operator l new trial operator may content turns =
-      treated_executable asks command word l trial (Ok Goes) new may
-      (operator_acts asks command word l trial (Ok Goes) new operator content
-      (turns_shown [] [] _ _ trial (Ok Goes) l new (λ s shown. tt) (λ s shown. tt) turns))
+      attempt (Ok Goes) l new
+  treated_by_operator l new attempt operator may content turns =
+      treated_executable asks command word l attempt (Ok Goes) new may
+      (operator_acts asks command word l attempt (Ok Goes) new operator content
+      (turns_shown [] [] _ _ attempt (Ok Goes) l new (λ s shown. tt) (λ s shown. tt) turns))
 
 module _ (asks : Asks) (command word : Word) (came : Ahead) (old new : List Word) where
   abbrev Treated : Type 0
@@ -82,7 +82,7 @@ module _ (asks : Asks) (command word : Word) (came : Ahead) (old new : List Word
       → GoesAlone (word ∷ command ∷ []) nothing_more (pushed_turn command word) goes old new
       → Treated
   literal_treated literal goes is pushed = enters_as _ _ _ _ _ _ (λ heap values. values)
-      (λ l new trial turns. treated_literal asks command word l trial (Ok Goes) new literal turns)
+      (λ l new attempt turns. treated_literal asks command word l attempt (Ok Goes) new literal turns)
       came old new (goes_enters (word ∷ command ∷ []) nothing_more (pushed_turn command word) goes came old new is
       pushed)
 
@@ -90,8 +90,8 @@ module _ (asks : Asks) (command word : Word) (came : Ahead) (old new : List Word
       → content_in word.0 ≡ Operator operator
       → EntersAlone [] (operated_asks asks operator) (operated_turn operator) came old new → Treated
   operator_treated operator may content = enters_as _ _ _ _ _ _ (λ heap values. tt)
-      (λ l new trial turns.
-      treated_by_operator asks command word l new trial operator may content turns) came old new
+      (λ l new attempt turns.
+      treated_by_operator asks command word l new attempt operator may content turns) came old new
 
 -- ---- as which value an element is treated
 
@@ -159,16 +159,16 @@ module _ (asks : Asks) (heap : Heap) (dictionaries : List Word) (word : Word) wh
 
   module _ (value : Word) (treats : TreatsAs asks heap dictionaries word value) where
     -- what treating the value comes to is what doing the element does
-    pub treated_done : (l : Lent) (trial : Trial) (result : Result Turned Reason) (new : Lent)
+    pub treated_done : (l : Lent) (attempt : Attempt) (result : Result Turned Reason) (new : Lent)
         → IsGood (among heap dictionaries l)
-        → TurnsWith (value ∷ word ∷ []) [] (treated_asks asks value) (treated_turn word value) trial
+        → TurnsWith (value ∷ word ∷ []) [] (treated_asks asks value) (treated_turn word value) attempt
         result (among heap dictionaries l) new
-        → TurnsWith (word ∷ word ∷ []) [] (executed_asks asks word) (done_turn word word) trial
+        → TurnsWith (word ∷ word ∷ []) [] (executed_asks asks word) (done_turn word word) attempt
         result (among heap dictionaries l) new
-    treated_done l trial result new good turns =
+    treated_done l attempt result new good turns =
         turns_over (IsShownWith (value ∷ word ∷ []) []) (IsShownWith (word ∷ word ∷ []) [])
         (treated_asks asks value) (executed_asks asks word) (treated_turn word value)
-        (done_turn word word) trial result (among heap dictionaries l) new
+        (done_turn word word) attempt result (among heap dictionaries l) new
         (λ s held. record {
           shown = held.shown;
           words_within = ((treats l s good held).within, held.words_within.1);
@@ -207,15 +207,15 @@ module _ (asks : Asks) (heap : Heap) (dictionaries : List Word) (word : Word) wh
             → Done_by goes
         by ahead.Goes alone = (
           tt,
-          λ l trial good values room.
-              treated_done value treats (record l { operands = old }) trial (Ok Goes) _ good
-              (alone.1 (among heap dictionaries l) trial good (held, values.1) room),
+          λ l attempt good values room.
+              treated_done value treats (record l { operands = old }) attempt (Ok Goes) _ good
+              (alone.1 (among heap dictionaries l) attempt good (held, values.1) room),
         )
         by (ahead.Enters body) alone = (
           tt,
-          λ l trial good values room.
-              treated_done value treats (record l { operands = old }) trial (Ok Goes) _ good
-              (alone.1 (among heap dictionaries l) trial good (held, values.1) room),
+          λ l attempt good values room.
+              treated_done value treats (record l { operands = old }) attempt (Ok Goes) _ good
+              (alone.1 (among heap dictionaries l) attempt good (held, values.1) room),
         )
         by ahead.Left alone = (alone.0, tt)
 
@@ -234,9 +234,9 @@ module _ (asks : Asks) (heap : Heap) (dictionaries : List Word) (word : Word) wh
             → Done_by (done_ahead done)
         by true pushed = (
           tt,
-          λ l trial good values room.
-              procedure_pushed asks word word _ trial (Ok Goes) _ (made _ _)
-              (pushed.1 (among heap dictionaries l) trial good values room),
+          λ l attempt good values room.
+              procedure_pushed asks word word _ attempt (Ok Goes) _ (made _ _)
+              (pushed.1 (among heap dictionaries l) attempt good values room),
         )
         by false pushed = (pushed.0, tt)
 

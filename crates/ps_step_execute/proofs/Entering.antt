@@ -15,7 +15,7 @@ use Rattle.ps_ops_control.specs.declared.frames.Frame.TheVariants.{Procedure}
 use Rattle.ps_ops_control.specs.Ahead.{entered_ahead}
 use Rattle.ps_ops_control.specs.Frames.{frame_of, IsHeld}
 use Rattle.ps_ops_control.proofs.Rooms.{fits}
-use Rattle.ps_ops_state.specs.declared.lent.Trial.{Trial}
+use Rattle.ps_ops_state.specs.declared.lent.Attempt.{Attempt}
 use Rattle.ps_ops_state.specs.Lent.{Lent, IsGood}
 use Rattle.ps_step_outcome.specs.declared.turned.Turned.TheVariants.{Goes}
 use Rattle.ps_step_outcome.specs.Turns.{IsShownWith, TurnsWith, nothing_more}
@@ -27,20 +27,20 @@ use Rattle.ps_step_execute.proofs.Pushing.{goes_as}
 module _ (asks : Asks) (command word : Word) (may : executable_in word.0 ≡ true) where
   module _ (part : Part) (content : content_in word.0 ≡ Array part)
       (access : is_executable part.access ≡ true) (old : List Word) where
-    module _ (l : Lent) (trial : Trial) (good : IsGood l) (held : IsHeld l.heap part) where
+    module _ (l : Lent) (attempt : Attempt) (good : IsGood l) (held : IsHeld l.heap part) where
       empty_goes : part.length ≡ 0
-          → TurnsWith (command ∷ []) [] nothing_more (entered_turn command part) trial (Ok Goes) l l
+          → TurnsWith (command ∷ []) [] nothing_more (entered_turn command part) attempt (Ok Goes) l l
       empty_goes none =
-          goes_as command l trial (IsShownWith (command ∷ []) []) (entered_turn command part)
+          goes_as command l attempt (IsShownWith (command ∷ []) []) (entered_turn command part)
           (λ s held. held.shown) good (λ s held. rw (access, none) refl)
 
       filled_goes : 1 ≤ part.length → 1 + length l.frames ≤ 250
-          → TurnsWith (command ∷ []) [] nothing_more (entered_turn command part) trial (Ok Goes) l
+          → TurnsWith (command ∷ []) [] nothing_more (entered_turn command part) attempt (Ok Goes) l
           (record l { frames = Procedure part ∷ l.frames })
       filled_goes some room =
           let positive : (part.length == 0) ≡ false = grind (arith, nat_tests, some) in
           goes_over l l.operands (Procedure part ∷ l.frames) (IsShownWith (command ∷ []) [])
-          nothing_more (entered_turn command part) trial
+          nothing_more (entered_turn command part) attempt
           (λ s held. record {
             shows = held.shown.shows;
             operands = held.shown.operands;
@@ -63,20 +63,20 @@ module _ (asks : Asks) (command word : Word) (may : executable_in word.0 ≡ tru
         → Comes (if empty then ahead.Goes else ahead.Enters part)
     entered_by true none = (
       tt,
-      λ l trial good values room.
+      λ l attempt good values room.
           let before : Lent = record l { operands = old } in
-          treated_executable asks command word before trial (Ok Goes) _ may
-          (array_entered asks command word before trial (Ok Goes) _ part content
-          (empty_goes before trial good (array_held l.heap word part values.0 content)
+          treated_executable asks command word before attempt (Ok Goes) _ may
+          (array_entered asks command word before attempt (Ok Goes) _ part content
+          (empty_goes before attempt good (array_held l.heap word part values.0 content)
           (grind (arith, nat_tests, none)))),
     )
     entered_by false none = (
       tt,
-      λ l trial good values room.
+      λ l attempt good values room.
           let before : Lent = record l { operands = old } in
-          treated_executable asks command word before trial (Ok Goes) _ may
-          (array_entered asks command word before trial (Ok Goes) _ part content
-          (filled_goes before trial good (array_held l.heap word part values.0 content)
+          treated_executable asks command word before attempt (Ok Goes) _ may
+          (array_entered asks command word before attempt (Ok Goes) _ part content
+          (filled_goes before attempt good (array_held l.heap word part values.0 content)
           (grind (arith, nat_tests, none)) room)),
     )
 

@@ -25,7 +25,7 @@ use Rattle.ps_mem.specs.Shows.{IsValue, IsWithin, IsWithinContent}
 use Rattle.ps_ops_operands.specs.declared.failure.NotMade.{NotMade as Reason}
 use Rattle.ps_ops_control.specs.declared.frames.Frame.TheVariants.{Pending}
 use Rattle.ps_ops_control.specs.Frames.{IsHeld, IsHeldText}
-use Rattle.ps_ops_state.specs.declared.lent.Trial.{Trial}
+use Rattle.ps_ops_state.specs.declared.lent.Attempt.{Attempt}
 use Rattle.ps_ops_state.specs.Acts.{Asked}
 use Rattle.ps_ops_state.specs.Lent.{Lent, scene_of, around_of, IsShown, IsGood}
 use Rattle.ps_step_outcome.specs.declared.turned.Turned.{Turned}
@@ -62,22 +62,22 @@ procedure_asked asks value around scene made = by value.executable value.what ma
     by true (condition_value _) made = absurd (cc)
     by false what made = absurd (cc)
 
-module _ (asks : Asks) (command word : Word) (l : Lent) (trial : Trial) where
+module _ (asks : Asks) (command word : Word) (l : Lent) (attempt : Attempt) where
   -- a store that is shown with both in hand
   abbrev Held : Store → Type 0
   Held s = IsShownWith (word ∷ command ∷ []) [] l s
 
   module _ (result : Result Turned Reason) (new : Lent) where
     abbrev Comes : (Lent → Store → Asked) → (Lent → Store → Turn) → Type 0
-    Comes asked turn = TurnsWith (word ∷ command ∷ []) [] asked turn trial result l new
+    Comes asked turn = TurnsWith (word ∷ command ∷ []) [] asked turn attempt result l new
 
     comes_over : (stores : Lent → Store → Type 0) → ((s : Store) → Held s → stores l s)
         → (asked other : Lent → Store → Asked) (done turn : Lent → Store → Turn)
         → ((s : Store) → Held s → turn l s ≡ done l s)
         → ((s : Store) → Held s → other l s ≡ asked l s)
-        → TurnsOver stores asked done trial result l new → Comes other turn
+        → TurnsOver stores asked done attempt result l new → Comes other turn
     comes_over stores fewer asked other done turn is same turns =
-        turns_over stores (IsShownWith (word ∷ command ∷ []) []) asked other done turn trial result
+        turns_over stores (IsShownWith (word ∷ command ∷ []) []) asked other done turn attempt result
         l new fewer (λ s held. sym (is s held)) (λ s held. sym (same s held)) turns
 
     comes_as : (asked other : Lent → Store → Asked) (done turn : Lent → Store → Turn)
@@ -92,7 +92,7 @@ module _ (asks : Asks) (command word : Word) (l : Lent) (trial : Trial) where
     comes_by : (asked other : Lent → Store → Asked) (done turn : Lent → Store → Turn)
         → ((s : Store) → Held s → turn l s ≡ done l s)
         → ((s : Store) → Held s → other l s ≡ asked l s)
-        → TurnsWith (command ∷ []) [] asked done trial result l new → Comes other turn
+        → TurnsWith (command ∷ []) [] asked done attempt result l new → Comes other turn
     comes_by asked other done turn is same turns =
         comes_over (IsShownWith (command ∷ []) []) (behind_first l word command) asked other done
         turn is same turns
@@ -101,7 +101,7 @@ module _ (asks : Asks) (command word : Word) (l : Lent) (trial : Trial) where
 
     pub name_waits : (number : ℕ) → content_in word.0 ≡ Name number
         → TurnsWith (command ∷ []) (Pending word ∷ []) nothing_more
-        (framed_turn command (Pending word)) trial result l new
+        (framed_turn command (Pending word)) attempt result l new
         → Comes (word_asks asks word) (executed_what_turn command word)
     unfolding value_of
     name_waits number content =
@@ -113,7 +113,7 @@ module _ (asks : Asks) (command word : Word) (l : Lent) (trial : Trial) where
         _ _ _ _ (λ s held. rw content refl) (λ s held. rw content refl)
 
     pub operator_acts : (operator : Named) → content_in word.0 ≡ Operator operator
-        → Turns (operated_asks asks operator) (operated_turn operator) trial result l new
+        → Turns (operated_asks asks operator) (operated_turn operator) attempt result l new
         → Comes (word_asks asks word) (executed_what_turn command word)
     unfolding value_of
     operator_acts operator content =
@@ -121,7 +121,7 @@ module _ (asks : Asks) (command word : Word) (l : Lent) (trial : Trial) where
         (λ s held. rw content refl)
 
     pub array_entered : (part : Part) → content_in word.0 ≡ Array part
-        → TurnsWith (command ∷ []) [] nothing_more (entered_turn command part) trial result l new
+        → TurnsWith (command ∷ []) [] nothing_more (entered_turn command part) attempt result l new
         → Comes (word_asks asks word) (executed_what_turn command word)
     unfolding value_of
     array_entered part content =
@@ -129,7 +129,7 @@ module _ (asks : Asks) (command word : Word) (l : Lent) (trial : Trial) where
 
     pub text_scanned : (part : Part) → content_in word.0 ≡ Text part
         → TurnsWith (command ∷ []) (string_frame part ∷ []) nothing_more
-        (scanned_turn command part) trial result l new
+        (scanned_turn command part) attempt result l new
         → Comes (word_asks asks word) (executed_what_turn command word)
     unfolding value_of IsWithin
     text_scanned part content =
@@ -171,7 +171,7 @@ module _ (asks : Asks) (command word : Word) (l : Lent) (trial : Trial) where
           → ((s : Store) → IsShown l s → IsWithin (birth_at l.heap) l.names s value)
           → Finds (known (meaning l value))
           → TurnsWith (value ∷ command ∷ []) [] (treated_asks asks value)
-          (treated_turn command value) trial result l new
+          (treated_turn command value) attempt result l new
           → Comes (executed_asks asks word) (executed_turn command word)
       unfolding executed
       found_treated value within found =
@@ -184,7 +184,7 @@ module _ (asks : Asks) (command word : Word) (l : Lent) (trial : Trial) where
           (λ s held. rw (named, found s held) refl)
 
       pub unknown_raised : Finds unknown
-          → TurnsWith (command ∷ []) [] nothing_more (error_turn Undefined command) trial result l
+          → TurnsWith (command ∷ []) [] nothing_more (error_turn Undefined command) attempt result l
           new
           → Comes (executed_asks asks word) (executed_turn command word)
       unfolding executed
@@ -193,7 +193,7 @@ module _ (asks : Asks) (command word : Word) (l : Lent) (trial : Trial) where
           (λ s held. rw (named, found s held) refl)
 
       pub unreadable_raised : Finds unreadable
-          → TurnsWith (command ∷ []) [] nothing_more (error_turn InvalidAccess command) trial result
+          → TurnsWith (command ∷ []) [] nothing_more (error_turn InvalidAccess command) attempt result
           l new
           → Comes (executed_asks asks word) (executed_turn command word)
       unfolding executed
@@ -229,12 +229,12 @@ module _ (asks : Asks) (command word : Word) (l : Lent) (trial : Trial) where
   pub null_goes : IsGood l
       → ((s : Store) → what_of (birth_at l.heap) l.names (content_in word.0) ≡ what_of (birth_at l.heap) l.names Null)
       → TurnsWith (word ∷ command ∷ []) [] (word_asks asks word) (executed_what_turn command word)
-      trial (Ok Goes) l l
+      attempt (Ok Goes) l l
   unfolding value_of
   null_goes good null =
       comes_as (Ok Goes) l nothing_more (word_asks asks word) (executed_what_turn command word)
       (executed_what_turn command word) (λ s held. refl) (λ s held. rw (null s) refl)
-      (goes_as command l trial (IsShownWith (word ∷ command ∷ []) [])
+      (goes_as command l attempt (IsShownWith (word ∷ command ∷ []) [])
       (executed_what_turn command word) (λ s held. held.shown) good (λ s held. rw (null s) refl))
 
 -- ---- what a word is
@@ -364,18 +364,18 @@ module _ (births : ℕ → ℕ) (names : List (List ℕ)) where
 
 -- ---- a null, and what is pushed
 
-module _ (asks : Asks) (command word : Word) (l : Lent) (trial : Trial)
+module _ (asks : Asks) (command word : Word) (l : Lent) (attempt : Attempt)
     (content : Content) (is : content ≡ content_in word.0) where
   abbrev Executes : Result Turned Reason → Lent → Type 0
   Executes result new = TurnsWith (word ∷ command ∷ []) [] (word_asks asks word)
-      (executed_what_turn command word) trial result l new
+      (executed_what_turn command word) attempt result l new
 
   pub idle_goes : IsGood l → IsIdle content → Executes (Ok Goes) l
-  idle_goes good idle = null_goes asks command word l trial good λ s.
+  idle_goes good idle = null_goes asks command word l attempt good λ s.
       ap (what_of (birth_at l.heap) l.names) (sym is) ∙ idle_is (birth_at l.heap) l.names content idle
 
   pub datum_pushed : (result : Result Turned Reason) (new : Lent) → IsDatum content
-      → TurnsWith (word ∷ command ∷ []) [] nothing_more (pushed_turn command word) trial result l
+      → TurnsWith (word ∷ command ∷ []) [] nothing_more (pushed_turn command word) attempt result l
       new
       → Executes result new
   unfolding value_of
@@ -388,7 +388,7 @@ module _ (asks : Asks) (command word : Word) (l : Lent) (trial : Trial)
           × (what_asks asks (what_of (birth_at l.heap) l.names kind) (around_of l) (scene_of l s)
           ≡ none_asked))
           → Executes result new
-      plain kind same means = comes_as asks command word l trial result new nothing_more
+      plain kind same means = comes_as asks command word l attempt result new nothing_more
           (word_asks asks word) (pushed_turn command word) (executed_what_turn command word)
           (λ s held. (λ i. executed_what (meaning l command) (meaning l word)
           (what_of (birth_at l.heap) l.names ((sym is ∙ same) i)) (around_of l) (scene_of l s))

@@ -5,7 +5,7 @@ use Rattle.ps_word.specs.declared.values.Content.TheVariants.{Operator}
 use Rattle.ps_word.specs.declared.words.Word.{Word}
 use Rattle.ps_word.specs.Format.{content_in, executable_in}
 use Rattle.ps_ops_state.specs.Lent.{Lent}
-use Rattle.ps_ops_state.specs.Trials.{ordinary}
+use Rattle.ps_ops_state.specs.Attempts.{ordinary}
 use Rattle.ps_ops_state.specs.Unframed.{under}
 use Rattle.ps_step_execute.specs.declared.under.Under.{Under}
 use Rattle.ps_step_execute.specs.declared.under.Under.TheVariants.{Done, Fails, Left}

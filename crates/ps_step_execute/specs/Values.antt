@@ -20,10 +20,10 @@ use Rattle.ps_ops_control.specs.declared.frames.Frame.TheVariants.{Text}
 use Rattle.ps_ops_control.specs.declared.frames.Source.TheVariants.{Text as TextOf}
 use Rattle.ps_ops_control.specs.Ahead.{HasRoom, OnDone, OnLeft, done_ahead, frames_ahead}
 use Rattle.ps_ops_control.specs.Frames.{frame_of}
-use Rattle.ps_ops_state.specs.declared.lent.Trial.{Trial}
+use Rattle.ps_ops_state.specs.declared.lent.Attempt.{Attempt}
 use Rattle.ps_ops_state.specs.Acts.{Asked}
 use Rattle.ps_ops_state.specs.Lent.{Lent, scene_of, around_of, IsShown, IsGood}
-use Rattle.ps_ops_state.specs.Trials.{ordinary}
+use Rattle.ps_ops_state.specs.Attempts.{ordinary}
 use Rattle.ps_ops_state.specs.Unframed.{under, IsUndone}
 use Rattle.ps_step_outcome.specs.declared.turned.Turned.TheVariants.{Goes}
 use Rattle.ps_step_execute.specs.declared.under.Under.{Under}
@@ -150,9 +150,9 @@ module _ (asks : Asks) where
 abbrev pub EntersIn : (setting : Lent → Lent) → (words : List Word) → (asked : Lent → Store → Asked)
     → (turn : Lent → Store → Turn) → Ahead → (old new : List Word) → Type 0
 EntersIn setting words asked turn came old new = OnLeft came (new ≡ old)
-    × OnDone came ((l : Lent) (trial : Trial) → IsGood (record (setting l) { operands = old })
+    × OnDone came ((l : Lent) (attempt : Attempt) → IsGood (record (setting l) { operands = old })
     → AreValues (setting l).heap words → HasRoom 1 came (setting l).frames
-    → TurnsWith words [] asked turn trial (Ok Goes) (record (setting l) { operands = old })
+    → TurnsWith words [] asked turn attempt (Ok Goes) (record (setting l) { operands = old })
     (record (setting l) { operands = new; frames = frames_ahead came (setting l).frames }))
 
 -- in every setting

@@ -2,7 +2,7 @@
 
 ghost use Rattle.std.specs.Prelude.{◌≡◌, ◌<◌, ◌∷◌, []};
 ghost use Rattle.ps_mem.specs.Shows.{IsValue};
-ghost use Rattle.ps_ops_state.specs.Lent.{lent, IsGood};
+ghost use Rattle.ps_ops_state.specs.Lent.{lent_of, IsGood};
 ghost use Rattle.ps_ops_control.specs.Frames.{IsHeld, IsHeldText};
 ghost use Rattle.ps_step_outcome.specs.Turns.{TurnsWith, nothing_more};
 ghost use Rattle.ps_step_execute.specs.Values.{entered_turn, scanned_turn, string_frame};
@@ -13,7 +13,7 @@ use ps_mem::Memory;
 use ps_ops_control::frames::{Frame, Source};
 use ps_ops_operands::access::is_executable;
 use ps_ops_operands::failure::NotMade;
-use ps_ops_state::lent::{Context, Shared, Trial};
+use ps_ops_state::lent::{Attempt, Context, Runtime};
 use ps_step_outcome::raises::raise;
 use ps_step_outcome::turned::Turned;
 use ps_word::values::Part;
@@ -27,33 +27,24 @@ pub fn enter<M: Memory>(
     part: Part,
     command: Word,
     context: &mut Context,
-    shared: &mut Shared,
-    memory: &mut M,
-    trial: Trial,
+    runtime: &mut Runtime<M>,
+    attempt: Attempt,
 ) -> Result<Turned, NotMade>
-    requires good { IsGood
-        (lent (M.heap memory.old) (M.grants memory.old) context.old shared.old) }
-    requires part { IsHeld (M.heap memory.old) part }
-    requires command { IsValue (M.heap memory.old) command }
-    ensures { TurnsWith (command ∷ []) [] nothing_more (entered_turn command part) trial result
-        (lent (M.heap memory.old) (M.grants memory.old) context.old shared.old)
-        (lent (M.heap memory.new) (M.grants memory.new) context.new shared.new) }
+    requires good { IsGood (lent_of M.heap M.grants context.old runtime.old) }
+    requires part { IsHeld (M.heap runtime.old.memory) part }
+    requires command { IsValue (M.heap runtime.old.memory) command }
+    ensures { TurnsWith (command ∷ []) [] nothing_more (entered_turn command part) attempt result
+        (lent_of M.heap M.grants context.old runtime.old)
+        (lent_of M.heap M.grants context.new runtime.new) }
 {
     if !is_executable(part.access) {
-        return raise(
-            ErrorName::InvalidAccess,
-            command,
-            context,
-            shared,
-            memory,
-            trial,
-        );
+        return raise(ErrorName::InvalidAccess, command, context, runtime, attempt);
     }
     if part.length == 0 {
         return Ok(Turned::Goes);
     }
     let frame = Frame::Procedure { rest: part };
-    push_frame(frame, command, context, shared, memory, trial)
+    push_frame(frame, command, context, runtime, attempt)
 }
 
 /// A string is scanned, from its begin on. Raises with the command `invalidaccess` where it can't
@@ -64,32 +55,23 @@ pub fn scan_string<M: Memory>(
     part: Part,
     command: Word,
     context: &mut Context,
-    shared: &mut Shared,
-    memory: &mut M,
-    trial: Trial,
+    runtime: &mut Runtime<M>,
+    attempt: Attempt,
 ) -> Result<Turned, NotMade>
-    requires good { IsGood
-        (lent (M.heap memory.old) (M.grants memory.old) context.old shared.old) }
-    requires part { IsHeldText (M.heap memory.old) part }
-    requires command { IsValue (M.heap memory.old) command }
+    requires good { IsGood (lent_of M.heap M.grants context.old runtime.old) }
+    requires part { IsHeldText (M.heap runtime.old.memory) part }
+    requires command { IsValue (M.heap runtime.old.memory) command }
     ensures { TurnsWith (command ∷ []) (string_frame part ∷ []) nothing_more
-        (scanned_turn command part) trial result
-        (lent (M.heap memory.old) (M.grants memory.old) context.old shared.old)
-        (lent (M.heap memory.new) (M.grants memory.new) context.new shared.new) }
+        (scanned_turn command part) attempt result
+        (lent_of M.heap M.grants context.old runtime.old)
+        (lent_of M.heap M.grants context.new runtime.new) }
 {
     if !is_executable(part.access) {
-        return raise(
-            ErrorName::InvalidAccess,
-            command,
-            context,
-            shared,
-            memory,
-            trial,
-        );
+        return raise(ErrorName::InvalidAccess, command, context, runtime, attempt);
     }
     let frame = Frame::Text {
         source: Source::Text(part),
         at: 0,
     };
-    push_frame(frame, command, context, shared, memory, trial)
+    push_frame(frame, command, context, runtime, attempt)
 }

@@ -5,7 +5,7 @@ ghost use Rattle.ps_language.specs.Effect.{Around, Scene};
 ghost use Rattle.ps_language.specs.declared.operators.Operator as names;
 ghost use Rattle.ps_word.specs.declared.values.Part.{Part as ThePart};
 ghost use Rattle.ps_ops_state.specs.Acts.{Asked, AreFew};
-ghost use Rattle.ps_ops_state.specs.Lent.{lent, IsGood};
+ghost use Rattle.ps_ops_state.specs.Lent.{lent_of, IsGood};
 ghost use Rattle.ps_step_outcome.specs.Turns.{Turns};
 ghost use Rattle.ps_step_execute.specs.Values.{EntersAlone, GoesUnder, operated_asks, operated_turn};
 
@@ -15,7 +15,7 @@ use ps_mem::{Memory, Slot};
 use ps_ops_control::ahead::Ahead;
 use ps_ops_operands::Operands;
 use ps_ops_operands::failure::NotMade;
-use ps_ops_state::lent::{Context, Shared, Trial};
+use ps_ops_state::lent::{Attempt, Context, Runtime};
 use ps_step_outcome::turned::Turned;
 
 /// Does the operators of a step.
@@ -38,16 +38,14 @@ pub trait Operate {
         &self,
         operator: Operator,
         context: &mut Context,
-        shared: &mut Shared,
-        memory: &mut M,
+        runtime: &mut Runtime<M>,
         slot: Slot,
     ) -> Under
-        requires good { IsGood
-            (lent (M.heap memory.old) (M.grants memory.old) context.old shared.old) }
+        requires good { IsGood (lent_of M.heap M.grants context.old runtime.old) }
         ensures frames { context.new.frames ≡ context.old.frames }
         ensures goes { GoesUnder [] (operated_asks asks operator) (operated_turn operator) slot
-            result (lent (M.heap memory.old) (M.grants memory.old) context.old shared.old)
-            (lent (M.heap memory.new) (M.grants memory.new) context.new shared.new) };
+            result (lent_of M.heap M.grants context.old runtime.old)
+            (lent_of M.heap M.grants context.new runtime.new) };
 
     /// An operator acts: its effect comes about, or its error is raised with the operator as the
     /// command.
@@ -57,15 +55,13 @@ pub trait Operate {
         &self,
         operator: Operator,
         context: &mut Context,
-        shared: &mut Shared,
-        memory: &mut M,
-        trial: Trial,
+        runtime: &mut Runtime<M>,
+        attempt: Attempt,
     ) -> Result<Turned, NotMade>
-        requires good { IsGood
-            (lent (M.heap memory.old) (M.grants memory.old) context.old shared.old) }
-        ensures { Turns (operated_asks asks operator) (operated_turn operator) trial result
-            (lent (M.heap memory.old) (M.grants memory.old) context.old shared.old)
-            (lent (M.heap memory.new) (M.grants memory.new) context.new shared.new) };
+        requires good { IsGood (lent_of M.heap M.grants context.old runtime.old) }
+        ensures { Turns (operated_asks asks operator) (operated_turn operator) attempt result
+            (lent_of M.heap M.grants context.old runtime.old)
+            (lent_of M.heap M.grants context.new runtime.new) };
 
     /// Every operator leaves a record to its step.
     ghost few: { AreFew asks };

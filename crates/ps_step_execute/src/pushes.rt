@@ -4,7 +4,7 @@ ghost use Rattle.std.specs.Prelude.{◌≡◌, ◌<◌, ◌∷◌, [], length};
 ghost use Rattle.ps_word.specs.declared.words.Word.{Word as TheWord};
 ghost use Rattle.ps_mem.specs.Shows.{IsValue};
 ghost use Rattle.ps_ops_control.specs.Frames.{IsFrame};
-ghost use Rattle.ps_ops_state.specs.Lent.{lent, IsGood};
+ghost use Rattle.ps_ops_state.specs.Lent.{lent_of, IsGood};
 ghost use Rattle.ps_step_outcome.specs.Turns.{TurnsWith, nothing_more};
 ghost use Rattle.ps_step_execute.specs.Values.{GoesAlone, framed_turn, pushed_turn};
 
@@ -13,7 +13,7 @@ use ps_mem::Memory;
 use ps_ops_control::frames::Frame;
 use ps_ops_operands::Operands;
 use ps_ops_operands::failure::NotMade;
-use ps_ops_state::lent::{Context, Shared, Trial};
+use ps_ops_state::lent::{Attempt, Context, Runtime};
 use ps_step_outcome::raises::raise;
 use ps_step_outcome::turned::Turned;
 use ps_word::words::Word;
@@ -26,28 +26,19 @@ pub fn push_value<M: Memory>(
     word: Word,
     command: Word,
     context: &mut Context,
-    shared: &mut Shared,
-    memory: &mut M,
-    trial: Trial,
+    runtime: &mut Runtime<M>,
+    attempt: Attempt,
 ) -> Result<Turned, NotMade>
-    requires good { IsGood
-        (lent (M.heap memory.old) (M.grants memory.old) context.old shared.old) }
-    requires word { IsValue (M.heap memory.old) word }
-    requires command { IsValue (M.heap memory.old) command }
-    ensures { TurnsWith (word ∷ command ∷ []) [] nothing_more (pushed_turn command word) trial
+    requires good { IsGood (lent_of M.heap M.grants context.old runtime.old) }
+    requires word { IsValue (M.heap runtime.old.memory) word }
+    requires command { IsValue (M.heap runtime.old.memory) command }
+    ensures { TurnsWith (word ∷ command ∷ []) [] nothing_more (pushed_turn command word) attempt
         result
-        (lent (M.heap memory.old) (M.grants memory.old) context.old shared.old)
-        (lent (M.heap memory.new) (M.grants memory.new) context.new shared.new) }
+        (lent_of M.heap M.grants context.old runtime.old)
+        (lent_of M.heap M.grants context.new runtime.new) }
 {
     if context.operands.is_full() {
-        return raise(
-            ErrorName::StackOverflow,
-            command,
-            context,
-            shared,
-            memory,
-            trial,
-        );
+        return raise(ErrorName::StackOverflow, command, context, runtime, attempt);
     }
     context.operands.push_reserved(word);
     Ok(Turned::Goes)
@@ -74,27 +65,25 @@ pub fn push_frame<M: Memory>(
     frame: Frame,
     command: Word,
     context: &mut Context,
-    shared: &mut Shared,
-    memory: &mut M,
-    trial: Trial,
+    runtime: &mut Runtime<M>,
+    attempt: Attempt,
 ) -> Result<Turned, NotMade>
-    requires good { IsGood
-        (lent (M.heap memory.old) (M.grants memory.old) context.old shared.old) }
-    requires frame { IsFrame (M.heap memory.old) (length shared.old.program.now) frame }
-    requires command { IsValue (M.heap memory.old) command }
-    ensures { TurnsWith (command ∷ []) (frame ∷ []) nothing_more (framed_turn command frame) trial
+    requires good { IsGood (lent_of M.heap M.grants context.old runtime.old) }
+    requires frame { IsFrame (M.heap runtime.old.memory) (length runtime.old.shared.program.now)
+        frame }
+    requires command { IsValue (M.heap runtime.old.memory) command }
+    ensures { TurnsWith (command ∷ []) (frame ∷ []) nothing_more (framed_turn command frame) attempt
         result
-        (lent (M.heap memory.old) (M.grants memory.old) context.old shared.old)
-        (lent (M.heap memory.new) (M.grants memory.new) context.new shared.new) }
+        (lent_of M.heap M.grants context.old runtime.old)
+        (lent_of M.heap M.grants context.new runtime.new) }
 {
     if context.frames.is_full() {
         return raise(
             ErrorName::ExecStackOverflow,
             command,
             context,
-            shared,
-            memory,
-            trial,
+            runtime,
+            attempt,
         );
     }
     context.frames.push_reserved(frame);

@@ -3,12 +3,12 @@
 ghost use Rattle.std.specs.Prelude.{◌≡◌, ◌<◌, ◌∷◌, []};
 ghost use Rattle.ps_word.specs.declared.words.Word.{Word as TheWord};
 ghost use Rattle.ps_word.specs.Format.{IsWord};
-ghost use Rattle.ps_ops_state.specs.Lent.{lent, IsGood};
+ghost use Rattle.ps_ops_state.specs.Lent.{lent_of, IsGood};
 ghost use Rattle.ps_step_execute.specs.Values.{GoesUnder, treated_asks, treated_turn};
 
 use crate::operates::Operate;
 use ps_mem::{Memory, Slot};
-use ps_ops_state::lent::{Context, Shared};
+use ps_ops_state::lent::{Context, Runtime};
 use ps_word::words::Word;
 
 /// What an operator came to, whatever frames are above those that stand.
@@ -29,21 +29,19 @@ pub fn treat_under<O: Operate, M: Memory>(
     value: Word,
     operators: &O,
     context: &mut Context,
-    shared: &mut Shared,
-    memory: &mut M,
+    runtime: &mut Runtime<M>,
     slot: Slot,
 ) -> Under
     requires word { IsWord value.0 }
-    requires good { IsGood
-        (lent (M.heap memory.old) (M.grants memory.old) context.old shared.old) }
+    requires good { IsGood (lent_of M.heap M.grants context.old runtime.old) }
     ensures frames { context.new.frames ≡ context.old.frames }
     ensures goes { (command : TheWord) → GoesUnder (value ∷ command ∷ [])
         (treated_asks O.asks value) (treated_turn command value) slot result
-        (lent (M.heap memory.old) (M.grants memory.old) context.old shared.old)
-        (lent (M.heap memory.new) (M.grants memory.new) context.new shared.new) }
+        (lent_of M.heap M.grants context.old runtime.old)
+        (lent_of M.heap M.grants context.new runtime.new) }
 {
     match value.executable_operator() {
-        Some(operator) => operators.operate_under(operator, context, shared, memory, slot),
+        Some(operator) => operators.operate_under(operator, context, runtime, slot),
         None => Under::Left,
     }
 }

@@ -5,7 +5,7 @@ ghost use Rattle.ps_language.specs.StepValues.{is_executable_name};
 ghost use Rattle.ps_word.specs.Format.{content_in};
 ghost use Rattle.ps_mem.specs.Meaning.{value_of};
 ghost use Rattle.ps_mem.specs.Shows.{IsValue};
-ghost use Rattle.ps_ops_state.specs.Lent.{lent, IsGood};
+ghost use Rattle.ps_ops_state.specs.Lent.{lent_of, IsGood};
 ghost use Rattle.ps_step_outcome.specs.Turns.{TurnsWith};
 ghost use Rattle.ps_step_execute.specs.Values.{done_turn, executed_asks, executed_turn};
 ghost use Rattle.ps_step_execute.specs.Values.{executed_what_turn, treated_asks, treated_turn, word_asks};
@@ -17,7 +17,7 @@ use ps_language::errors::ErrorName;
 use ps_mem::Memory;
 use ps_ops_control::frames::Frame;
 use ps_ops_operands::failure::NotMade;
-use ps_ops_state::lent::{Context, Shared, Trial};
+use ps_ops_state::lent::{Attempt, Context, Runtime};
 use ps_step_lookup::lookups::look_up;
 use ps_step_outcome::raises::raise;
 use ps_step_outcome::turned::Turned;
@@ -33,41 +33,32 @@ fn execute_content<O: Operate, M: Memory>(
     command: Word,
     operators: &O,
     context: &mut Context,
-    shared: &mut Shared,
-    memory: &mut M,
-    trial: Trial,
+    runtime: &mut Runtime<M>,
+    attempt: Attempt,
 ) -> Result<Turned, NotMade>
-    requires good { IsGood
-        (lent (M.heap memory.old) (M.grants memory.old) context.old shared.old) }
-    requires word { IsValue (M.heap memory.old) word }
-    requires command { IsValue (M.heap memory.old) command }
+    requires good { IsGood (lent_of M.heap M.grants context.old runtime.old) }
+    requires word { IsValue (M.heap runtime.old.memory) word }
+    requires command { IsValue (M.heap runtime.old.memory) command }
     requires content { content ≡ content_in word.0 }
     ensures { TurnsWith (word ∷ command ∷ []) [] (word_asks O.asks word)
-        (executed_what_turn command word) trial result
-        (lent (M.heap memory.old) (M.grants memory.old) context.old shared.old)
-        (lent (M.heap memory.new) (M.grants memory.new) context.new shared.new) }
+        (executed_what_turn command word) attempt result
+        (lent_of M.heap M.grants context.old runtime.old)
+        (lent_of M.heap M.grants context.new runtime.new) }
 {
     match content {
         Content::Name(_) => {
-            push_frame(
-                Frame::Pending { word },
-                command,
-                context,
-                shared,
-                memory,
-                trial,
-            )
+            push_frame(Frame::Pending { word }, command, context, runtime, attempt)
         }
-        Content::Operator(operator) => operators.operate(operator, context, shared, memory, trial),
+        Content::Operator(operator) => operators.operate(operator, context, runtime, attempt),
         Content::Null | Content::Body(_) => Ok(Turned::Goes),
-        Content::Array(part) => enter(part, command, context, shared, memory, trial),
-        Content::Text(part) => scan_string(part, command, context, shared, memory, trial),
+        Content::Array(part) => enter(part, command, context, runtime, attempt),
+        Content::Text(part) => scan_string(part, command, context, runtime, attempt),
         Content::Integer(_)
         | Content::Boolean(_)
         | Content::Mark
         | Content::Dictionary(_)
         | Content::Lock(_)
-        | Content::Condition(_) => push_value(word, command, context, shared, memory, trial),
+        | Content::Condition(_) => push_value(word, command, context, runtime, attempt),
     }
 }
 
@@ -83,26 +74,22 @@ pub fn treat<O: Operate, M: Memory>(
     command: Word,
     operators: &O,
     context: &mut Context,
-    shared: &mut Shared,
-    memory: &mut M,
-    trial: Trial,
+    runtime: &mut Runtime<M>,
+    attempt: Attempt,
 ) -> Result<Turned, NotMade>
-    requires good { IsGood
-        (lent (M.heap memory.old) (M.grants memory.old) context.old shared.old) }
-    requires word { IsValue (M.heap memory.old) word }
-    requires command { IsValue (M.heap memory.old) command }
+    requires good { IsGood (lent_of M.heap M.grants context.old runtime.old) }
+    requires word { IsValue (M.heap runtime.old.memory) word }
+    requires command { IsValue (M.heap runtime.old.memory) command }
     ensures { TurnsWith (word ∷ command ∷ []) [] (treated_asks O.asks word)
-        (treated_turn command word) trial result
-        (lent (M.heap memory.old) (M.grants memory.old) context.old shared.old)
-        (lent (M.heap memory.new) (M.grants memory.new) context.new shared.new) }
+        (treated_turn command word) attempt result
+        (lent_of M.heap M.grants context.old runtime.old)
+        (lent_of M.heap M.grants context.new runtime.new) }
 {
     if !word.is_executable() {
-        return push_value(word, command, context, shared, memory, trial);
+        return push_value(word, command, context, runtime, attempt);
     }
     let content = word.content();
-    execute_content(
-        content, word, command, operators, context, shared, memory, trial,
-    )
+    execute_content(content, word, command, operators, context, runtime, attempt)
 }
 
 /// An executable name is looked up, and its value is treated.
@@ -117,39 +104,23 @@ pub fn execute_name<O: Operate, M: Memory>(
     command: Word,
     operators: &O,
     context: &mut Context,
-    shared: &mut Shared,
-    memory: &mut M,
-    trial: Trial,
+    runtime: &mut Runtime<M>,
+    attempt: Attempt,
 ) -> Result<Turned, NotMade>
-    requires good { IsGood
-        (lent (M.heap memory.old) (M.grants memory.old) context.old shared.old) }
-    requires word { IsValue (M.heap memory.old) word }
-    requires command { IsValue (M.heap memory.old) command }
+    requires good { IsGood (lent_of M.heap M.grants context.old runtime.old) }
+    requires word { IsValue (M.heap runtime.old.memory) word }
+    requires command { IsValue (M.heap runtime.old.memory) command }
     requires name { (births : ℕ → ℕ) (names : List (List ℕ))
         → is_executable_name (value_of births names word) ≡ true }
     ensures { TurnsWith (word ∷ command ∷ []) [] (executed_asks O.asks word)
-        (executed_turn command word) trial result
-        (lent (M.heap memory.old) (M.grants memory.old) context.old shared.old)
-        (lent (M.heap memory.new) (M.grants memory.new) context.new shared.new) }
+        (executed_turn command word) attempt result
+        (lent_of M.heap M.grants context.old runtime.old)
+        (lent_of M.heap M.grants context.new runtime.new) }
 {
-    match look_up(memory, &context.dictionaries, Some(word)) {
-        Ok(Some(found)) => treat(found.1, command, operators, context, shared, memory, trial),
-        Ok(None) => raise(
-            ErrorName::Undefined,
-            command,
-            context,
-            shared,
-            memory,
-            trial,
-        ),
-        Err(_) => raise(
-            ErrorName::InvalidAccess,
-            command,
-            context,
-            shared,
-            memory,
-            trial,
-        ),
+    match look_up(&mut runtime.memory, &context.dictionaries, Some(word)) {
+        Ok(Some(found)) => treat(found.1, command, operators, context, runtime, attempt),
+        Ok(None) => raise(ErrorName::Undefined, command, context, runtime, attempt),
+        Err(_) => raise(ErrorName::InvalidAccess, command, context, runtime, attempt),
     }
 }
 
@@ -164,27 +135,23 @@ pub fn execute<O: Operate, M: Memory>(
     command: Word,
     operators: &O,
     context: &mut Context,
-    shared: &mut Shared,
-    memory: &mut M,
-    trial: Trial,
+    runtime: &mut Runtime<M>,
+    attempt: Attempt,
 ) -> Result<Turned, NotMade>
-    requires good { IsGood
-        (lent (M.heap memory.old) (M.grants memory.old) context.old shared.old) }
-    requires word { IsValue (M.heap memory.old) word }
-    requires command { IsValue (M.heap memory.old) command }
+    requires good { IsGood (lent_of M.heap M.grants context.old runtime.old) }
+    requires word { IsValue (M.heap runtime.old.memory) word }
+    requires command { IsValue (M.heap runtime.old.memory) command }
     ensures { TurnsWith (word ∷ command ∷ []) [] (executed_asks O.asks word)
-        (executed_turn command word) trial result
-        (lent (M.heap memory.old) (M.grants memory.old) context.old shared.old)
-        (lent (M.heap memory.new) (M.grants memory.new) context.new shared.new) }
+        (executed_turn command word) attempt result
+        (lent_of M.heap M.grants context.old runtime.old)
+        (lent_of M.heap M.grants context.new runtime.new) }
 {
     if !word.is_executable() {
-        return push_value(word, command, context, shared, memory, trial);
+        return push_value(word, command, context, runtime, attempt);
     }
     match word.content() {
-        Content::Name(_) => execute_name(word, command, operators, context, shared, memory, trial),
-        content => execute_content(
-            content, word, command, operators, context, shared, memory, trial,
-        ),
+        Content::Name(_) => execute_name(word, command, operators, context, runtime, attempt),
+        content => execute_content(content, word, command, operators, context, runtime, attempt),
     }
 }
 
@@ -197,27 +164,23 @@ pub fn do_element<O: Operate, M: Memory>(
     command: Word,
     operators: &O,
     context: &mut Context,
-    shared: &mut Shared,
-    memory: &mut M,
-    trial: Trial,
+    runtime: &mut Runtime<M>,
+    attempt: Attempt,
 ) -> Result<Turned, NotMade>
-    requires good { IsGood
-        (lent (M.heap memory.old) (M.grants memory.old) context.old shared.old) }
-    requires word { IsValue (M.heap memory.old) word }
-    requires command { IsValue (M.heap memory.old) command }
+    requires good { IsGood (lent_of M.heap M.grants context.old runtime.old) }
+    requires word { IsValue (M.heap runtime.old.memory) word }
+    requires command { IsValue (M.heap runtime.old.memory) command }
     ensures { TurnsWith (word ∷ command ∷ []) [] (executed_asks O.asks word)
-        (done_turn command word) trial result
-        (lent (M.heap memory.old) (M.grants memory.old) context.old shared.old)
-        (lent (M.heap memory.new) (M.grants memory.new) context.new shared.new) }
+        (done_turn command word) attempt result
+        (lent_of M.heap M.grants context.old runtime.old)
+        (lent_of M.heap M.grants context.new runtime.new) }
 {
     if !word.is_executable() {
-        return push_value(word, command, context, shared, memory, trial);
+        return push_value(word, command, context, runtime, attempt);
     }
     match word.content() {
-        Content::Name(_) => execute_name(word, command, operators, context, shared, memory, trial),
-        Content::Array(_) => push_value(word, command, context, shared, memory, trial),
-        content => execute_content(
-            content, word, command, operators, context, shared, memory, trial,
-        ),
+        Content::Name(_) => execute_name(word, command, operators, context, runtime, attempt),
+        Content::Array(_) => push_value(word, command, context, runtime, attempt),
+        content => execute_content(content, word, command, operators, context, runtime, attempt),
     }
 }

@@ -1,7 +1,7 @@
 -- An element as its value is treated, over the frames that are left.
 use Rattle.std.proofs.Common.{[], ◌∷◌, Ok, refl}
 use Rattle.ps_word.specs.declared.values.Part.{Part}
-use Rattle.ps_ops_state.specs.declared.lent.Trial.{Trial}
+use Rattle.ps_ops_state.specs.declared.lent.Attempt.{Attempt}
 use Rattle.ps_ops_state.specs.Lent.{Lent, IsGood}
 use Rattle.ps_step_outcome.specs.declared.turned.Turned.TheVariants.{Goes}
 use Rattle.ps_step_outcome.specs.Turns.{Turns, TurnsWith}
@@ -21,13 +21,13 @@ module _ (asks : Asks) (l : Lent) (rest : Part) (element : Element) (good : IsGo
   left_good = restacked_good (above rest l) l.operands (rest_frames rest l.frames)
       (rest_good (above rest l) rest l.frames refl good) good
 
-  pub treated_goes : (trial : Trial) (after : Lent)
+  pub treated_goes : (attempt : Attempt) (after : Lent)
       → TurnsWith (element.value ∷ element.word ∷ []) [] (treated_asks asks element.value)
-      (treated_turn element.word element.value) trial (Ok Goes) left after
-      → Turns (frame_asks asks) running_turn trial (Ok Goes) (above rest l) after
-  treated_goes trial after turns =
+      (treated_turn element.word element.value) attempt (Ok Goes) left after
+      → Turns (frame_asks asks) running_turn attempt (Ok Goes) (above rest l) after
+  treated_goes attempt after turns =
       element_made (above rest l) rest l.frames refl element.word
       (λ s shown. is.reads l.names s shown.shows) good
-      (λ s shown. is.within l.names s shown.shows) asks trial Goes after
-      (treated_done asks l.heap l.dictionaries element.word element.value is.treats left trial
+      (λ s shown. is.within l.names s shown.shows) asks attempt Goes after
+      (treated_done asks l.heap l.dictionaries element.word element.value is.treats left attempt
       (Ok Goes) after left_good turns)

@@ -8,7 +8,7 @@ use Rattle.ps_ops_operands.specs.declared.failure.NotMade.TheVariants.{LogFull, 
 use Rattle.ps_ops_operands.proofs.Held.{rest_held}
 use Rattle.ps_ops_control.specs.declared.frames.Frame.{Frame}
 use Rattle.ps_ops_control.specs.Frames.{IsFrame, IsFrameWithin, AreFrames}
-use Rattle.ps_ops_state.specs.declared.lent.Trial.{Trial}
+use Rattle.ps_ops_state.specs.declared.lent.Attempt.{Attempt}
 use Rattle.ps_ops_state.specs.Lent.{Lent, scene_of, IsShown, IsGood}
 use Rattle.ps_ops_state.specs.Acts.{Asked, Needs, IsReason}
 use Rattle.ps_ops_state.proofs.Kept.{frames-good}
@@ -30,11 +30,11 @@ below_good l good = record {
 
 -- ---- nothing is done
 
-pub goes_here : (l : Lent) → IsGood l → (turn : Lent → Store → Turn) (trial : Trial)
+pub goes_here : (l : Lent) → IsGood l → (turn : Lent → Store → Turn) (attempt : Attempt)
     → ((s : Store) → IsShown l s → turn l s ≡ leads (scene_of l s))
-    → Turns nothing_more turn trial (Ok Goes) l l
-goes_here l good turn trial is =
-    goes_on l l.operands l.frames nothing_more turn trial (here_good l good) is good
+    → Turns nothing_more turn attempt (Ok Goes) l l
+goes_here l good turn attempt is =
+    goes_on l l.operands l.frames nothing_more turn attempt (here_good l good) is good
 
 -- ---- a turn over other frames
 
@@ -49,27 +49,27 @@ module _ (l : Lent) (frames : List Frame) where
 
   -- not made; the frames are put back
   pub unmade_over : (asks over_asks : Lent → Store → Asked) (turn over : Lent → Store → Turn)
-      (trial : Trial) (stores : Lent → Store → Type 0)
+      (attempt : Attempt) (stores : Lent → Store → Type 0)
       (shows : (s : Store) → IsShown l s → stores (record l { frames = frames }) s)
       (same : (s : Store) → IsShown l s → over (record l { frames = frames }) s ≡ turn l s)
       (asked : (s : Store) → IsShown l s → over_asks (record l { frames = frames }) s ≡ asks l s)
       → IsGood l → (reason : Reason) (new : Lent)
-      → TurnsOver stores over_asks over trial (Err reason) (record l { frames = frames }) new
-      → Turns asks turn trial (Err reason) l (record new { frames = l.frames })
-  unmade_over asks over_asks turn over trial stores shows same asked good reason new turns = record {
+      → TurnsOver stores over_asks over attempt (Err reason) (record l { frames = frames }) new
+      → Turns asks turn attempt (Err reason) l (record new { frames = l.frames })
+  unmade_over asks over_asks turn over attempt stores shows same asked good reason new turns = record {
     meets = λ s shown.
         let by = turns.meets s (shows s shown) in
         let birth : ℕ = birth_at l.heap l.error_dictionary in
-        let needs : needs_in trial over_asks over (record l { frames = frames }) s
-        ≡ needs_in trial asks turn l s =
-        needs_same l l.operands frames trial.refused (over_asks (record l { frames = frames }) s) birth s
+        let needs : needs_in attempt over_asks over (record l { frames = frames }) s
+        ≡ needs_in attempt asks turn l s =
+        needs_same l l.operands frames attempt.refused (over_asks (record l { frames = frames }) s) birth s
         (over (record l { frames = frames }) s)
-        ∙ (λ i. turn_needs trial.refused (asked s shown i) birth (scene_of l s)
+        ∙ (λ i. turn_needs attempt.refused (asked s shown i) birth (scene_of l s)
         (same s shown i)) in
         record {
           did = (
-            subst (λ (n : Needs). IsReason n trial.slot l (record new { frames = l.frames }) reason)
-                needs (reason_as _ trial.slot new reason by.did.0),
+            subst (λ (n : Needs). IsReason n attempt.slot l (record new { frames = l.frames }) reason)
+                needs (reason_as _ attempt.slot new reason by.did.0),
             ap (λ (n : Lent). record n { frames = l.frames }) by.did.1,
           );
           logs = by.logs;

@@ -17,7 +17,7 @@ use Rattle.ps_ops_operands.specs.declared.failure.NotMade.{NotMade as Reason}
 use Rattle.ps_ops_operands.specs.Changes.{KeepsLogsWithin, most_records}
 use Rattle.ps_ops_control.specs.declared.frames.Frame.TheVariants.{Monitor}
 use Rattle.ps_ops_control.specs.Frames.{frames_in, IsFrame, AreFrames}
-use Rattle.ps_ops_state.specs.declared.lent.Trial.{Trial}
+use Rattle.ps_ops_state.specs.declared.lent.Attempt.{Attempt}
 use Rattle.ps_ops_state.specs.Acts.{Lasts}
 use Rattle.ps_ops_state.specs.Lent.{Lent, scene_of, around_of, IsGood}
 use Rattle.ps_ops_state.proofs.Meeting.{at_least-same, logs_more}
@@ -64,7 +64,7 @@ module _ (s : Store) (lock : ℕ) (old : Option ℕ) (there : slice_get s lock �
 -- ---- a running context
 
 module _ (l : Lent) (good : IsGood l) (lock : ℕ)
-    (top : l.frames ≡ Monitor lock ∷ drop 1 l.frames) (trial : Trial) where
+    (top : l.frames ≡ Monitor lock ∷ drop 1 l.frames) (attempt : Attempt) where
   pub monitor_held : IsFrame l.heap (length l.program) (Monitor lock)
   monitor_held = (subst (AreFrames l.heap (length l.program)) top good.frames).0
 
@@ -75,40 +75,40 @@ module _ (l : Lent) (good : IsGood l) (lock : ℕ)
   monitor_is s =
       (λ i. turn_as (around_of l) running (frames_in l.heap l.names (top i)) (scene_of l s))
 
-  monitor_records : (s : Store) → (needs_in trial lock_asks running_turn l s).records ≡ 1
+  monitor_records : (s : Store) → (needs_in attempt lock_asks running_turn l s).records ≡ 1
   monitor_records s =
-      ap (λ (t : Turn). (turn_needs trial.refused (lock_asks l s)
+      ap (λ (t : Turn). (turn_needs attempt.refused (lock_asks l s)
       (birth_at l.heap l.error_dictionary) (scene_of l s) t).records) (monitor_is s)
 
-  pub monitor_unmade : (grants : Grants) → KeepsLogsWithin 0 l.grants grants trial.slot
-      → (reason : Reason) → IsUnlogged 1 trial.slot l.grants grants reason
-      → Turns lock_asks running_turn trial (Err reason) l (record l { grants = grants })
+  pub monitor_unmade : (grants : Grants) → KeepsLogsWithin 0 l.grants grants attempt.slot
+      → (reason : Reason) → IsUnlogged 1 attempt.slot l.grants grants reason
+      → Turns lock_asks running_turn attempt (Err reason) l (record l { grants = grants })
   monitor_unmade grants logs reason why =
       not_turned l l.scratch good.empty (at_least-same _) good grants l.room
-      (omega arith) lock_asks running_turn trial
+      (omega arith) lock_asks running_turn attempt
       reason logs λ s shown.
-      unlogged_reason trial.slot 1 (omega arith) l (record l { grants = grants }) reason why
-      (needs_in trial lock_asks running_turn l s)
+      unlogged_reason attempt.slot 1 (omega arith) l (record l { grants = grants }) reason why
+      (needs_in attempt lock_asks running_turn l s)
       (let one = monitor_records s in omega (arith, one))
 
   pub monitor_goes : (heap : Heap) (grants : Grants) → Keeps l.heap heap → IsSound heap
-      → KeepsLogsWithin 1 l.grants grants trial.slot
+      → KeepsLogsWithin 1 l.grants grants attempt.slot
       → ((names : List (List ℕ)) (s : Store) → Shows l.heap names s
       → Shows heap names (with_owner s (birth_at l.heap lock) None))
-      → Turns lock_asks running_turn trial (Ok Goes) l
+      → Turns lock_asks running_turn attempt (Ok Goes) l
       (record l { heap = heap; grants = grants; frames = drop 1 l.frames })
   monitor_goes heap grants keeps sound logs shows =
       stored_on l good (drop 1 l.frames) (below_good l good) heap grants l.scratch l.printed l.room
-      keeps sound good.empty (at_least-same _) (omega arith) lock_asks running_turn trial Goes tt
-      (logs_more 1 most_records l.grants grants trial.slot (omega arith) logs) λ s shown.
+      keeps sound good.empty (at_least-same _) (omega arith) lock_asks running_turn attempt Goes tt
+      (logs_more 1 most_records l.grants grants attempt.slot (omega arith) logs) λ s shown.
       let there = lock_shown l.heap lock monitor_held l.names s shown.shows in
       record {
         later = with_owner s (birth_at l.heap lock) None;
         is = λ machine was address.
-            goes_as trial.refused (running_turn l s) _ (monitor_is s) l.printed machine was;
+            goes_as attempt.refused (running_turn l s) _ (monitor_is s) l.printed machine was;
         shows = shows l.names s shown.shows;
         lasts = lasts_free s (birth_at l.heap lock) there.0 there.1;
         leaves = tt;
-        logs = subst (λ n. KeepsLogsWithin n l.grants grants trial.slot)
+        logs = subst (λ n. KeepsLogsWithin n l.grants grants attempt.slot)
             (sym (monitor_records s)) logs;
       }

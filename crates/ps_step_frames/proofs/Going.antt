@@ -16,7 +16,7 @@ use Rattle.ps_ops_control.specs.declared.frames.Cause.{Cause}
 use Rattle.ps_ops_control.specs.Frames.{frame_of, frames_in}
 use Rattle.ps_ops_control.specs.Turns.{cause_of, ends_at_loop, ends_at_stopped, is_monitor}
 use Rattle.ps_ops_control.proofs.FramesLeft.{left, ended, stopped_ended}
-use Rattle.ps_ops_state.specs.declared.lent.Trial.{Trial}
+use Rattle.ps_ops_state.specs.declared.lent.Attempt.{Attempt}
 use Rattle.ps_ops_state.specs.Lent.{Lent, scene_of, IsShown, IsGood}
 use Rattle.ps_step_outcome.specs.declared.turned.Turned.{Turned}
 use Rattle.ps_step_outcome.specs.declared.turned.Turned.TheVariants.{Goes, Breaks}
@@ -55,37 +55,37 @@ module _ (l : Lent) (good : IsGood l) (cause : Cause) (top : Frame)
 
 -- ---- once the frame has gone
 
-module _ (l : Lent) (trial : Trial) (cause : Cause) (frame : Frame) where
+module _ (l : Lent) (attempt : Attempt) (cause : Cause) (frame : Frame) where
   abbrev gone : Lent → Store → Turn
   gone = gone_turn (ends_at_loop cause frame) (ends_at_stopped cause frame) cause
 
   pub gone_ended : IsGood l → ends_at_loop cause frame ≡ true
-      → Turns nothing_more gone trial (Ok Goes) l l
+      → Turns nothing_more gone attempt (Ok Goes) l l
   gone_ended good loop =
       subst (λ (b : Bool). Turns nothing_more
-      (gone_turn b (ends_at_stopped cause frame) cause) trial (Ok Goes) l l) (sym loop)
-      (goes_here l good (gone_turn true (ends_at_stopped cause frame) cause) trial
+      (gone_turn b (ends_at_stopped cause frame) cause) attempt (Ok Goes) l l) (sym loop)
+      (goes_here l good (gone_turn true (ends_at_stopped cause frame) cause) attempt
       (λ s shown. refl))
 
   module _ (loop : ends_at_loop cause frame ≡ false) (result : Result Turned Reason) (new : Lent)
     where
       gone_on : (stopped : Bool) → ends_at_stopped cause frame ≡ stopped
-          → Turns nothing_more (gone_turn false stopped cause) trial result l new
-          → Turns nothing_more gone trial result l new
+          → Turns nothing_more (gone_turn false stopped cause) attempt result l new
+          → Turns nothing_more gone attempt result l new
       gone_on stopped is turns =
           subst (λ (b : Bool). Turns nothing_more
-          (gone_turn b (ends_at_stopped cause frame) cause) trial result l new) (sym loop)
-          (subst (λ (b : Bool). Turns nothing_more (gone_turn false b cause) trial result l new)
+          (gone_turn b (ends_at_stopped cause frame) cause) attempt result l new) (sym loop)
+          (subst (λ (b : Bool). Turns nothing_more (gone_turn false b cause) attempt result l new)
           (sym is) turns)
 
       pub gone_stopped : ends_at_stopped cause frame ≡ true
-          → Turns nothing_more (truth_turn true) trial result l new
-          → Turns nothing_more gone trial result l new
+          → Turns nothing_more (truth_turn true) attempt result l new
+          → Turns nothing_more gone attempt result l new
       gone_stopped is turns = gone_on true is turns
 
       pub gone_left : ends_at_stopped cause frame ≡ false
-          → Turns nothing_more (break_turn (cause_of cause)) trial result l new
-          → Turns nothing_more gone trial result l new
+          → Turns nothing_more (break_turn (cause_of cause)) attempt result l new
+          → Turns nothing_more gone attempt result l new
       gone_left is turns = gone_on false is turns
 
 -- ---- frames that hold no lock
@@ -116,12 +116,12 @@ unlocked_asks (Forall over at body) below l s free = refl
 unlocked_asks Stopped below l s free = refl
 unlocked_asks (Bind over at depth) below l s free = refl
 
-pub unlocked : (l new : Lent) (cause : Cause) (trial : Trial) (result : Result Turned Reason)
+pub unlocked : (l new : Lent) (cause : Cause) (attempt : Attempt) (result : Result Turned Reason)
     (top : Frame) → Some top ≡ first_of l.frames → is_monitor top ≡ false
-    → Turns nothing_more (unwinding_turn cause) trial result l new
-    → Turns unwinding_asks (unwinding_turn cause) trial result l new
-unlocked l new cause trial result top is free turns =
-    turns_as nothing_more unwinding_asks (unwinding_turn cause) (unwinding_turn cause) trial result
+    → Turns nothing_more (unwinding_turn cause) attempt result l new
+    → Turns unwinding_asks (unwinding_turn cause) attempt result l new
+unlocked l new cause attempt result top is free turns =
+    turns_as nothing_more unwinding_asks (unwinding_turn cause) (unwinding_turn cause) attempt result
     l new (λ s shown. refl) (λ s shown. unlocked_asks top (drop 1 l.frames) l s free
     ∙ ap (λ (fs : List Frame). unwound_asks (frames_in l.heap l.names fs))
     (sym (first_split l.frames top is))) turns
@@ -129,10 +129,10 @@ unlocked l new cause trial result top is free turns =
 -- ---- a frame that goes by itself
 
 -- while frames are left an unwinding goes on
-breaks_here : (l : Lent) (trial : Trial) (cause : Cause) → IsGood l
+breaks_here : (l : Lent) (attempt : Attempt) (cause : Cause) → IsGood l
     → IsUnderWay (Breaks cause) l.frames
-    → Turns nothing_more (break_turn (cause_of cause)) trial (Ok (Breaks cause)) l l
-breaks_here l trial cause good under_way = record {
+    → Turns nothing_more (break_turn (cause_of cause)) attempt (Ok (Breaks cause)) l l
+breaks_here l attempt cause good under_way = record {
   meets = λ s shown. record {
     did = record {
       after = s;
@@ -144,17 +144,17 @@ breaks_here l trial cause good under_way = record {
           (record (with_scene (scene_of l s) (unwinding (cause_of cause)) machine)
           { printed = was i })));
     };
-    logs = logs-same _ l.grants trial.slot;
+    logs = logs-same _ l.grants attempt.slot;
   };
   good = good;
   keeps = keeps-same l.heap;
   stays = stays_as l l refl refl refl refl (omega arith) (at_least-same _);
-  logs = logs-same _ l.grants trial.slot;
+  logs = logs-same _ l.grants attempt.slot;
   framed = tt;
   under_way = under_way;
 }
 
-module _ (l : Lent) (good : IsGood l) (trial : Trial) (cause : Cause) (top : Frame)
+module _ (l : Lent) (good : IsGood l) (attempt : Attempt) (cause : Cause) (top : Frame)
     (below : List Frame) (is : l.frames ≡ top ∷ below) (free : is_monitor top ≡ false) where
   first_is : Some top ≡ first_of l.frames
   first_is = sym (ap (λ (fs : List Frame). first_of fs) is)
@@ -171,30 +171,30 @@ module _ (l : Lent) (good : IsGood l) (trial : Trial) (cause : Cause) (top : Fra
   -- as what is left of it turns
   gone_turns : (turned : Turned)
       → Turns nothing_more (gone_turn (ends_at_loop cause top) (ends_at_stopped cause top) cause)
-      trial (Ok turned) under under
-      → Turns unwinding_asks (unwinding_turn cause) trial (Ok turned) l
+      attempt (Ok turned) under under
+      → Turns unwinding_asks (unwinding_turn cause) attempt (Ok turned) l
       (record l { frames = below })
   gone_turns turned turns =
-      subst (λ (fs : List Frame). Turns unwinding_asks (unwinding_turn cause) trial (Ok turned) l
+      subst (λ (fs : List Frame). Turns unwinding_asks (unwinding_turn cause) attempt (Ok turned) l
       (record l { frames = fs })) rest_is
-      (unlocked l under cause trial (Ok turned) top first_is free
+      (unlocked l under cause attempt (Ok turned) top first_is free
       (composes l l.operands (drop 1 l.frames) nothing_more nothing_more (unwinding_turn cause)
-      (gone_turn (ends_at_loop cause top) (ends_at_stopped cause top) cause) trial IsShown
+      (gone_turn (ends_at_loop cause top) (ends_at_stopped cause top) cause) attempt IsShown
       (restacked_shown l l.operands (drop 1 l.frames) (below_good l good))
       (gone_is l good cause top first_is free) (λ s shown. refl) turned under turns))
 
   -- it ends there
   pub frame_ends : ends_at_loop cause top ≡ true
-      → Turns unwinding_asks (unwinding_turn cause) trial (Ok Goes) l (record l { frames = below })
-  frame_ends loop = gone_turns Goes (gone_ended under trial cause top under_good loop)
+      → Turns unwinding_asks (unwinding_turn cause) attempt (Ok Goes) l (record l { frames = below })
+  frame_ends loop = gone_turns Goes (gone_ended under attempt cause top under_good loop)
 
   -- it goes on below
   pub frame_left : ends_at_loop cause top ≡ false → ends_at_stopped cause top ≡ false
       → IsUnderWay (Breaks cause) below
-      → Turns unwinding_asks (unwinding_turn cause) trial (Ok (Breaks cause)) l
+      → Turns unwinding_asks (unwinding_turn cause) attempt (Ok (Breaks cause)) l
       (record l { frames = below })
   frame_left loop stopped some =
       gone_turns (Breaks cause)
-      (gone_left under trial cause top loop (Ok (Breaks cause)) under stopped
-      (breaks_here under trial cause under_good
+      (gone_left under attempt cause top loop (Ok (Breaks cause)) under stopped
+      (breaks_here under attempt cause under_good
       (subst (IsUnderWay (Breaks cause)) (sym rest_is) some)))

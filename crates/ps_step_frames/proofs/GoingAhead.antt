@@ -11,7 +11,7 @@ use Rattle.ps_ops_control.specs.declared.frames.Frame.TheVariants.{Procedure}
 use Rattle.ps_ops_control.specs.Ahead.{OnLeft, TurnsAhead}
 use Rattle.ps_ops_control.specs.Controls as controls
 use Rattle.ps_ops_control.specs.Turns as control
-use Rattle.ps_ops_state.specs.declared.lent.Trial.{Trial}
+use Rattle.ps_ops_state.specs.declared.lent.Attempt.{Attempt}
 use Rattle.ps_ops_state.specs.Lent.{Lent, IsGood}
 use Rattle.ps_step_outcome.specs.declared.turned.Turned.TheVariants.{Goes}
 use Rattle.ps_step_outcome.specs.Turns.{Turns, nothing_more}
@@ -30,11 +30,11 @@ module _ (l : Lent) (good : IsGood l) (operator : Operator) (top frame : Frame)
       (controls.stacks l.operands l.frames) (controls.stacks operands frames)
 
   pub goes_so : (operands : List Word) (frames : List Frame) → Comes operands frames
-      → (asks : Asks) (trial : Trial)
-      → Turns (frame_asks asks) running_turn trial (Ok Goes) l (restacked l operands frames)
-  goes_so operands frames did asks trial =
-      joined asks l (restacked l operands frames) trial (Ok Goes) top frame same is (nothing asks)
-      (went l good trial operator operands frames did)
+      → (asks : Asks) (attempt : Attempt)
+      → Turns (frame_asks asks) running_turn attempt (Ok Goes) l (restacked l operands frames)
+  goes_so operands frames did asks attempt =
+      joined asks l (restacked l operands frames) attempt (Ok Goes) top frame same is (nothing asks)
+      (went l good attempt operator operands frames did)
 
   pub ahead : (came : Ahead) (operands : List Word) (frames : List Frame)
       → TurnsAhead operator came l.heap (length l.program) (controls.stacks l.operands l.frames)

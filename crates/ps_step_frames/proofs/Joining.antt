@@ -6,7 +6,7 @@ use Rattle.ps_stacks.specs.Tops.{first_of}
 use Rattle.ps_ops_operands.specs.declared.failure.NotMade.{NotMade as Reason}
 use Rattle.ps_ops_operands.proofs.Operands.{first_split}
 use Rattle.ps_ops_control.specs.declared.frames.Frame.{Frame}
-use Rattle.ps_ops_state.specs.declared.lent.Trial.{Trial}
+use Rattle.ps_ops_state.specs.declared.lent.Attempt.{Attempt}
 use Rattle.ps_ops_state.specs.Acts.{Asked}
 use Rattle.ps_ops_state.specs.Lent.{Lent, scene_of, around_of}
 use Rattle.ps_step_outcome.specs.declared.turned.Turned.{Turned}
@@ -23,23 +23,23 @@ framed_asks asks l frames s =
 
 -- by what the frame asks for
 pub joined_asks : (asks : Asks) (of_frame : Lent → Store → Asked)
-    (l new : Lent) (trial : Trial) (result : Result Turned Reason) (top frame : Frame) → top ≡ frame
+    (l new : Lent) (attempt : Attempt) (result : Result Turned Reason) (top frame : Frame) → top ≡ frame
     → first_of l.frames ≡ Some top
     → ((s : Store) → framed_asks asks l (frame ∷ drop 1 l.frames) s ≡ of_frame l s)
-    → Turns of_frame running_turn trial result l new
-    → Turns (frame_asks asks) running_turn trial result l new
-joined_asks asks of_frame l new trial result top frame same is asked turns =
-    turns_as of_frame (frame_asks asks) running_turn running_turn trial result l new
+    → Turns of_frame running_turn attempt result l new
+    → Turns (frame_asks asks) running_turn attempt result l new
+joined_asks asks of_frame l new attempt result top frame same is asked turns =
+    turns_as of_frame (frame_asks asks) running_turn running_turn attempt result l new
     (λ s shown. refl)
     (λ s shown. sym (ap (λ (fs : List Frame). framed_asks asks l fs s)
     (first_split l.frames frame (sym (is ∙ ap Some same))) ∙ asked s)) turns
 
 -- by a frame that asks for nothing
-pub joined : (asks : Asks) (l new : Lent) (trial : Trial)
+pub joined : (asks : Asks) (l new : Lent) (attempt : Attempt)
     (result : Result Turned Reason) (top frame : Frame) → top ≡ frame
     → first_of l.frames ≡ Some top
     → ((s : Store) → framed_asks asks l (frame ∷ drop 1 l.frames) s ≡ nothing_more l s)
-    → Turns nothing_more running_turn trial result l new
-    → Turns (frame_asks asks) running_turn trial result l new
-joined asks l new trial result top frame same is none turns =
-    joined_asks asks nothing_more l new trial result top frame same is none turns
+    → Turns nothing_more running_turn attempt result l new
+    → Turns (frame_asks asks) running_turn attempt result l new
+joined asks l new attempt result top frame same is none turns =
+    joined_asks asks nothing_more l new attempt result top frame same is none turns

@@ -26,7 +26,7 @@ use Rattle.ps_ops_control.specs.declared.frames.Frame.{Frame}
 use Rattle.ps_ops_control.specs.declared.frames.Frame.TheVariants.{Monitor}
 use Rattle.ps_ops_control.specs.Frames.{frames_in}
 use Rattle.ps_ops_control.specs.Turns.{cause_of}
-use Rattle.ps_ops_state.specs.declared.lent.Trial.{Trial}
+use Rattle.ps_ops_state.specs.declared.lent.Attempt.{Attempt}
 use Rattle.ps_ops_state.specs.Lent.{Lent, scene_of, around_of, IsShown, IsGood}
 use Rattle.ps_ops_state.proofs.Meeting.{at_least-same, logs_more}
 use Rattle.ps_step_outcome.specs.Turns.{IsUnlogged, LeavesHeap, IsUnderWay, Turns, is_told, needs_in, reached_by, status_of, lines_after}
@@ -136,7 +136,7 @@ module _ (s : Store) (lock : ℕ) (old : Option ℕ) (there : slice_get s lock �
 -- ---- what is lent
 
 module _ (l : Lent) (good : IsGood l) (lock : ℕ) (known : StandsAs l.heap LockKind lock 1)
-    (trial : Trial) where
+    (attempt : Attempt) where
   abbrev birth : ℕ
   birth = birth_at l.heap l.error_dictionary
 
@@ -151,7 +151,7 @@ module _ (l : Lent) (good : IsGood l) (lock : ℕ) (known : StandsAs l.heap Lock
 
   release_records : (cause : Cause) (s : Store) (b : Bool)
       → tells (cause_of cause) (scene_of l s).frames (dictionary_at (freed_store s) birth) ≡ b
-      → (needs_in trial lock_asks (releasing_turn cause lock) l s).records
+      → (needs_in attempt lock_asks (releasing_turn cause lock) l s).records
       ≡ (if b then 2 else 1)
   release_records Stop s b is = ap (λ (c : Bool). if c then 2 else 1) is
   release_records Exit s b is = ap (λ (c : Bool). if c then 2 else 1) is
@@ -166,49 +166,49 @@ module _ (l : Lent) (good : IsGood l) (lock : ℕ) (known : StandsAs l.heap Lock
         ∙ is s shown
 
     pub asked_records : (s : Store) → IsShown l s
-        → (needs_in trial lock_asks (releasing_turn cause lock) l s).records
+        → (needs_in attempt lock_asks (releasing_turn cause lock) l s).records
         ≡ (if b then 2 else 1)
     asked_records s shown = release_records cause s b (is_freed s shown)
 
     -- the log takes too few records
-    pub release_unmade : (grants : Grants) → KeepsLogsWithin 0 l.grants grants trial.slot
+    pub release_unmade : (grants : Grants) → KeepsLogsWithin 0 l.grants grants attempt.slot
         → (reason : Reason) (count : ℕ) → 1 ≤ count → count ≡ (if b then 2 else 1)
-        → IsUnlogged count trial.slot l.grants grants reason
-        → Turns lock_asks (releasing_turn cause lock) trial (Err reason) l
+        → IsUnlogged count attempt.slot l.grants grants reason
+        → Turns lock_asks (releasing_turn cause lock) attempt (Err reason) l
         (record l { grants = grants })
     release_unmade grants logs reason count some all why =
         not_turned l l.scratch good.empty (at_least-same _) good grants l.room
         (omega arith) lock_asks
-        (releasing_turn cause lock) trial reason logs λ s shown.
-        unlogged_reason trial.slot count some l (record l { grants = grants }) reason why
-        (needs_in trial lock_asks (releasing_turn cause lock) l s)
+        (releasing_turn cause lock) attempt reason logs λ s shown.
+        unlogged_reason attempt.slot count some l (record l { grants = grants }) reason why
+        (needs_in attempt lock_asks (releasing_turn cause lock) l s)
         (let asked = asked_records s shown in omega (arith, asked, all))
 
   -- nothing is told
   pub released : (cause : Cause) → ((s : Store) → IsShown l s
       → tells (cause_of cause) (scene_of l s).frames (dictionary_at s birth) ≡ false)
       → (heap : Heap) (grants : Grants) → Keeps l.heap heap → IsSound heap
-      → KeepsLogsWithin 1 l.grants grants trial.slot
+      → KeepsLogsWithin 1 l.grants grants attempt.slot
       → ((names : List (List ℕ)) (s : Store) → Shows l.heap names s
       → Shows heap names (with_owner s (birth_at l.heap lock) None))
-      → Turns lock_asks (releasing_turn cause lock) trial (Ok (untold cause l.frames)) l
+      → Turns lock_asks (releasing_turn cause lock) attempt (Ok (untold cause l.frames)) l
       (record l { heap = heap; grants = grants })
   released cause is heap grants keeps sound logs shows =
       stored_on l good l.frames (here_good l good) heap grants l.scratch l.printed l.room keeps sound
-      good.empty (at_least-same _) (omega arith) lock_asks (releasing_turn cause lock) trial
+      good.empty (at_least-same _) (omega arith) lock_asks (releasing_turn cause lock) attempt
       (untold cause l.frames) (untold_goes cause l.frames)
-      (logs_more 1 most_records l.grants grants trial.slot (omega arith) logs) λ s shown.
+      (logs_more 1 most_records l.grants grants attempt.slot (omega arith) logs) λ s shown.
       let there = lock_shown l.heap lock known l.names s shown.shows in
       record {
         later = freed_store s;
         is = λ machine was address.
             untold_as (record (scene_of l s) { store = freed_store s }) l.heap l.names cause
-            l.frames refl trial.refused machine birth address (is_freed cause false is s shown)
+            l.frames refl attempt.refused machine birth address (is_freed cause false is s shown)
             l.printed was;
         shows = shows l.names s shown.shows;
         lasts = lasts_free s (birth_at l.heap lock) there.0 there.1;
         leaves = untold_leaves cause l.frames l.heap heap;
-        logs = subst (λ n. KeepsLogsWithin n l.grants grants trial.slot)
+        logs = subst (λ n. KeepsLogsWithin n l.grants grants attempt.slot)
             (sym (asked_records cause false is s shown)) logs;
       }
 

@@ -8,7 +8,7 @@ use Rattle.ps_ops_operands.specs.declared.failure.NotMade.{NotMade as Reason}
 use Rattle.ps_ops_operands.specs.declared.failure.NotMade.TheVariants.{LogFull, LogClosed, NeedSpace, Memory}
 use Rattle.ps_ops_operands.specs.Changes.{KeepsLogsWithin, spent}
 use Rattle.ps_ops_state.specs.declared.lent.Scratch.{Scratch}
-use Rattle.ps_ops_state.specs.declared.lent.Trial.{Trial}
+use Rattle.ps_ops_state.specs.declared.lent.Attempt.{Attempt}
 use Rattle.ps_ops_state.specs.Lent.{Lent, Rooms, rooms_of, IsEmpty, IsShown, IsGood}
 use Rattle.ps_ops_state.specs.Acts.{Asked, Needs, LacksRooms, IsAtLeast, IsReason}
 use Rattle.ps_ops_state.proofs.Meeting.{keeps-same, logs_more, stays_as, at_least_then, AreNeedsWithin, reason_more}
@@ -68,10 +68,10 @@ module _ (l : Lent) (scratch : Scratch) (empty : IsEmpty scratch)
       inr (inr (inr (lacks_before (rooms_of l.scratch) (rooms_of scratch) needs.scratch least
       lists)))
 
-  turned_before : (few many : Needs) → AreNeedsWithin few many → (trial : Trial)
+  turned_before : (few many : Needs) → AreNeedsWithin few many → (attempt : Attempt)
       (result : Result Turned Reason) (turn : Turn) (s : Store) (new : Lent)
-      → TurnsAs few trial result turn s roomy new → TurnsAs many trial result turn s l new
-  turned_before few many more trial (Ok turned) turn s new did =
+      → TurnsAs few attempt result turn s roomy new → TurnsAs many attempt result turn s l new
+  turned_before few many more attempt (Ok turned) turn s new did =
       record {
         after = did.after;
         shown = did.shown;
@@ -79,27 +79,27 @@ module _ (l : Lent) (scratch : Scratch) (empty : IsEmpty scratch)
         leaves = did.leaves;
         is = did.is;
       }
-  turned_before few many more trial (Err reason) turn s new did = (
-    reason_more few many more trial.slot l new reason
-        (reason_before few trial.slot new reason did.0),
+  turned_before few many more attempt (Err reason) turn s new did = (
+    reason_more few many more attempt.slot l new reason
+        (reason_before few attempt.slot new reason did.0),
     did.1,
   )
 
   -- a turn over them is one that asks for as much at least
   pub over_roomy : (asks over_asks : Lent → Store → Asked) (turn over : Lent → Store → Turn)
-      (trial : Trial) (result : Result Turned Reason) (new : Lent)
+      (attempt : Attempt) (result : Result Turned Reason) (new : Lent)
       → ((s : Store) → IsShown l s → over roomy s ≡ turn l s)
-      → ((s : Store) → IsShown l s → AreNeedsWithin (needs_in trial over_asks over roomy s)
-      (needs_in trial asks turn l s))
-      → Turns over_asks over trial result roomy new → Turns asks turn trial result l new
-  over_roomy asks over_asks turn over trial result new same more turns = record {
+      → ((s : Store) → IsShown l s → AreNeedsWithin (needs_in attempt over_asks over roomy s)
+      (needs_in attempt asks turn l s))
+      → Turns over_asks over attempt result roomy new → Turns asks turn attempt result l new
+  over_roomy asks over_asks turn over attempt result new same more turns = record {
     meets = λ s shown.
         let by = turns.meets s (roomy_shown s shown) in
         let records = (more s shown).records in
         record {
-          did = subst (λ (t : Turn). TurnsAs (needs_in trial asks turn l s) trial result t s l new)
-              (same s shown) (turned_before _ _ (more s shown) trial result _ s new by.did);
-          logs = logs_more _ _ roomy.grants new.grants trial.slot
+          did = subst (λ (t : Turn). TurnsAs (needs_in attempt asks turn l s) attempt result t s l new)
+              (same s shown) (turned_before _ _ (more s shown) attempt result _ s new by.did);
+          logs = logs_more _ _ roomy.grants new.grants attempt.slot
               (spent_more result _ _ records) by.logs;
         };
     good = turns.good;
@@ -122,12 +122,12 @@ module _ (l : Lent) (scratch : Scratch) (empty : IsEmpty scratch)
 
   pub not_turned : IsGood l → (grants : Grants) (room : ℕ) → l.room ≤ room
       → (asks : Lent → Store → Asked)
-      (turn : Lent → Store → Turn) (trial : Trial) (reason : Reason)
-      → KeepsLogsWithin 0 l.grants grants trial.slot
-      → ((s : Store) → IsShown l s → IsReason (needs_in trial asks turn l s) trial.slot l
+      (turn : Lent → Store → Turn) (attempt : Attempt) (reason : Reason)
+      → KeepsLogsWithin 0 l.grants grants attempt.slot
+      → ((s : Store) → IsShown l s → IsReason (needs_in attempt asks turn l s) attempt.slot l
       (record roomy { grants = grants; room = room }) reason)
-      → Turns asks turn trial (Err reason) l (record roomy { grants = grants; room = room })
-  not_turned good grants room more asks turn trial reason logs why =
+      → Turns asks turn attempt (Err reason) l (record roomy { grants = grants; room = room })
+  not_turned good grants room more asks turn attempt reason logs why =
       let well = roomy_good good in
       record {
         meets = λ s shown. record { did = (why s shown, refl); logs = logs };

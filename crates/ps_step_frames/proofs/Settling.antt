@@ -21,7 +21,7 @@ use Rattle.ps_ops_control.specs.declared.frames.Frame.{Frame}
 use Rattle.ps_ops_control.specs.declared.frames.Frame.TheVariants.{Stopped}
 use Rattle.ps_ops_control.specs.Controls as controls
 use Rattle.ps_ops_control.specs.Turns as control
-use Rattle.ps_ops_state.specs.declared.lent.Trial.{Trial}
+use Rattle.ps_ops_state.specs.declared.lent.Attempt.{Attempt}
 use Rattle.ps_ops_state.specs.Lent.{Lent, around_of, IsShown, IsGood}
 use Rattle.ps_step_outcome.specs.declared.turned.Turned.{Turned}
 use Rattle.ps_step_outcome.specs.declared.turned.Turned.TheVariants.{Goes}
@@ -72,14 +72,14 @@ module _ (l : Lent) (operator : Operator) (outcome : Result Unit ErrorName) (ope
 
 -- ---- the turn, with its error raised
 
-module _ (l : Lent) (good : IsGood l) (trial : Trial) (operator : Operator) where
+module _ (l : Lent) (good : IsGood l) (attempt : Attempt) (operator : Operator) where
   -- it went on
   pub went : (operands : List Word) (frames : List Frame)
       → control.Turns operator (Ok tt) l.heap (length l.program)
       (controls.stacks l.operands l.frames) (controls.stacks operands frames)
-      → Turns nothing_more running_turn trial (Ok Goes) l (restacked l operands frames)
+      → Turns nothing_more running_turn attempt (Ok Goes) l (restacked l operands frames)
   went operands frames did =
-      goes_on l operands frames nothing_more running_turn trial
+      goes_on l operands frames nothing_more running_turn attempt
       (settled_good l operator (Ok tt) operands frames did)
       (λ s shown. sym (settled_is l operator (Ok tt) operands frames did s shown)) good
 
@@ -88,46 +88,46 @@ module _ (l : Lent) (good : IsGood l) (trial : Trial) (operator : Operator) wher
       (controls.stacks l.operands l.frames) (controls.stacks operands frames)
       → (result : Result Turned Reason) (new : Lent) → OnErr outcome (operands ≡ l.operands)
       → OnErr outcome (frames ≡ l.frames) → OnOk outcome (result ≡ Ok Goes)
-      → Turns nothing_more (outcome_turn operator outcome) trial result
+      → Turns nothing_more (outcome_turn operator outcome) attempt result
       (restacked l operands frames) new
-      → Turns nothing_more running_turn trial result l new
+      → Turns nothing_more running_turn attempt result l new
   settles outcome operands frames did (Ok turned) new operands_same frames_same goes_so turns =
       composes l operands frames nothing_more nothing_more running_turn
-      (outcome_turn operator outcome) trial IsShown
+      (outcome_turn operator outcome) attempt IsShown
       (restacked_shown l operands frames (settled_good l operator outcome operands frames did))
       (settled_is l operator outcome operands frames did) (λ s shown. refl) turned new turns
   settles (Ok u) operands frames did (Err reason) new operands_same frames_same goes_so turns = cc
   settles (Err e) operands frames did (Err reason) new operands_same frames_same goes_so turns =
-      turns_as nothing_more nothing_more (outcome_turn operator (Err e)) running_turn trial
+      turns_as nothing_more nothing_more (outcome_turn operator (Err e)) running_turn attempt
       (Err reason) l new
       (λ s shown. (λ i. outcome_turn operator (Err e)
       (restacked l (sym operands_same i) (sym frames_same i)) s)
       ∙ settled_is l operator (Err e) operands frames did s shown)
       (λ s shown. refl)
-      (subst (λ (fs : List Frame). Turns nothing_more (outcome_turn operator (Err e)) trial
+      (subst (λ (fs : List Frame). Turns nothing_more (outcome_turn operator (Err e)) attempt
       (Err reason) (restacked l l.operands fs) new) frames_same
-      (subst (λ (os : List Word). Turns nothing_more (outcome_turn operator (Err e)) trial
+      (subst (λ (os : List Word). Turns nothing_more (outcome_turn operator (Err e)) attempt
       (Err reason) (restacked l os frames) new) operands_same turns))
 
 -- ---- the boolean that stopped leaves
 
-module _ (l : Lent) (trial : Trial) (truth : Bool) where
+module _ (l : Lent) (attempt : Attempt) (truth : Bool) where
   pub truth_full : 500 ≤ length l.operands → (result : Result Turned Reason) (new : Lent)
-      → Turns nothing_more (operator_error StoppedOperator StackOverflow) trial result l new
-      → Turns nothing_more (truth_turn truth) trial result l new
+      → Turns nothing_more (operator_error StoppedOperator StackOverflow) attempt result l new
+      → Turns nothing_more (truth_turn truth) attempt result l new
   truth_full many result new turns =
       turns_as nothing_more nothing_more (operator_error StoppedOperator StackOverflow)
-      (truth_turn truth) trial result l new
+      (truth_turn truth) attempt result l new
       (λ s shown. rw (full_operands l.operands (birth_at l.heap) l.names many) refl)
       (λ s shown. refl) turns
 
   pub truth_pushed : IsGood l → length l.operands < 500 → (w : Word)
       → ((births : ℕ → ℕ) (names : List (List ℕ)) → value_of births names w ≡ boolean truth)
       → IsPlain w
-      → Turns nothing_more (truth_turn truth) trial (Ok Goes) l
+      → Turns nothing_more (truth_turn truth) attempt (Ok Goes) l
       (record l { operands = w ∷ l.operands })
   truth_pushed good few w means plain =
-      goes_on l (w ∷ l.operands) l.frames nothing_more (truth_turn truth) trial
+      goes_on l (w ∷ l.operands) l.frames nothing_more (truth_turn truth) attempt
       (record {
         operands_held = (plain_value l.heap w plain, good.operands);
         frames_held = good.frames;

@@ -20,7 +20,7 @@ use Rattle.ps_ops_operands.specs.Changes.{KeepsLogsWithin, values_in, most_recor
 use Rattle.ps_ops_control.specs.declared.frames.Frame.TheVariants.{Bind}
 use Rattle.ps_ops_control.specs.Frames.{IsHeld}
 use Rattle.ps_ops_state.specs.declared.lent.Scratch.{Scratch}
-use Rattle.ps_ops_state.specs.declared.lent.Trial.{Trial}
+use Rattle.ps_ops_state.specs.declared.lent.Attempt.{Attempt}
 use Rattle.ps_ops_state.specs.Acts.{Lasts, IsAtLeast}
 use Rattle.ps_ops_state.specs.Lent.{Lent, Rooms, rooms_of, IsEmpty, scene_of, IsShown, IsGood}
 use Rattle.ps_ops_state.proofs.Changing.{elements_last}
@@ -54,33 +54,33 @@ one_or_none true = omega arith
 one_or_none false = omega arith
 
 module _ (l : Lent) (good : IsGood l) (over : Part) (at depth : ℕ)
-    (top : l.frames ≡ Bind over at depth ∷ drop 1 l.frames) (trial : Trial) (scratch : Scratch)
+    (top : l.frames ≡ Bind over at depth ∷ drop 1 l.frames) (attempt : Attempt) (scratch : Scratch)
     (empty : IsEmpty scratch) (least : IsAtLeast (rooms_of l.scratch) (rooms_of scratch)) where
   abbrev Steps : Result Turned Reason → Lent → Type 0
-  Steps result new = Turns (bind_asks over at) running_turn trial result l new
+  Steps result new = Turns (bind_asks over at) running_turn attempt result l new
 
   -- the list of words has too little room
   pub bind_lacks : (rooms_of l.scratch).words < over.length - at
       → Steps (Err Memory) (roomy l scratch empty least)
   bind_lacks few =
-      not_turned l scratch empty least good l.grants l.room (omega arith) (bind_asks over at) running_turn trial Memory
-      (logs-same 0 l.grants trial.slot) λ s shown.
+      not_turned l scratch empty least good l.grants l.room (omega arith) (bind_asks over at) running_turn attempt Memory
+      (logs-same 0 l.grants attempt.slot) λ s shown.
       let asked = ap (λ (r : Rooms). r.words)
-      (bind_needs l good over at depth (drop 1 l.frames) top trial.refused s) in
+      (bind_needs l good over at depth (drop 1 l.frames) top attempt.refused s) in
       inr (inr (inr (inr (inr (omega (arith, asked, few))))))
 
   pub bind_raises : (bound : Option Bindings) (words : List Word)
       → BindsAll l.heap l.dictionaries over at bound words → (error : ErrorName)
       → within_limits bound depth (length l.frames) ≡ Err error → (result : Result Turned Reason)
-      (new : Lent) → Turns nothing_more (operator_error BindOperator error) trial result
+      (new : Lent) → Turns nothing_more (operator_error BindOperator error) attempt result
       (roomy l scratch empty least) new → Steps result new
   bind_raises bound words all error is result new turns =
       over_roomy l scratch empty least (bind_asks over at) nothing_more running_turn
-      (operator_error BindOperator error) trial result new same
+      (operator_error BindOperator error) attempt result new same
       (λ s shown. subst (λ (t : Turn). AreNeedsWithin
-      (needs_in trial nothing_more (operator_error BindOperator error)
+      (needs_in attempt nothing_more (operator_error BindOperator error)
       (roomy l scratch empty least) s)
-      (turn_needs trial.refused (bind_asks over at l s) (birth_at l.heap l.error_dictionary)
+      (turn_needs attempt.refused (bind_asks over at l s) (birth_at l.heap l.error_dictionary)
       (scene_of l s) t)) (same s shown) (record {
         bytes = omega arith;
         names = omega arith;
@@ -98,10 +98,10 @@ module _ (l : Lent) (good : IsGood l) (over : Part) (at depth : ℕ)
       (all : BindsAll l.heap l.dictionaries over at (Some bindings) words)
       (within : within_limits (Some bindings) depth (length l.frames) ≡ Ok bindings) where
     leads_records : (s : Store) → IsShown l s
-        → (needs_in trial (bind_asks over at) running_turn l s).records
+        → (needs_in attempt (bind_asks over at) running_turn l s).records
         ≡ (if bindings.changed then 1 else 0)
     leads_records s shown =
-        ap (λ (t : Turn). (turn_needs trial.refused (bind_asks over at l s)
+        ap (λ (t : Turn). (turn_needs attempt.refused (bind_asks over at l s)
         (birth_at l.heap l.error_dictionary) (scene_of l s) t).records)
         (bind_leaves l good over at depth (drop 1 l.frames) top bindings words all within s shown)
         ∙ bind_records l good over at depth (drop 1 l.frames) top bindings words all within s
@@ -109,14 +109,14 @@ module _ (l : Lent) (good : IsGood l) (over : Part) (at depth : ℕ)
 
     -- the log takes no record
     pub bind_unlogged : IsTrue bindings.changed → (grants : Grants)
-        → KeepsLogsWithin 0 l.grants grants trial.slot → (reason : Reason)
-        → IsUnlogged 1 trial.slot l.grants grants reason
+        → KeepsLogsWithin 0 l.grants grants attempt.slot → (reason : Reason)
+        → IsUnlogged 1 attempt.slot l.grants grants reason
         → Steps (Err reason) (record (roomy l scratch empty least) { grants = grants })
     bind_unlogged changed grants logs reason why =
         not_turned l scratch empty least good grants l.room (omega arith) (bind_asks over at)
-        running_turn trial reason logs λ s shown. unlogged_reason trial.slot 1 (omega arith) l
+        running_turn attempt reason logs λ s shown. unlogged_reason attempt.slot 1 (omega arith) l
         (record (roomy l scratch empty least) { grants = grants }) reason why
-        (needs_in trial (bind_asks over at) running_turn l s)
+        (needs_in attempt (bind_asks over at) running_turn l s)
         (let is = leads_records s shown ∙ one bindings.changed changed in omega (arith, is))
       where
         one : (b : Bool) → IsTrue b → ◌≡◌ {A = ℕ} (if b then 1 else 0) 1
@@ -125,7 +125,7 @@ module _ (l : Lent) (good : IsGood l) (over : Part) (at depth : ℕ)
 
     -- the elements are stored where one was replaced
     pub bind_stored : (heap : Heap) (grants : Grants) → Keeps l.heap heap → IsSound heap
-        → KeepsLogsWithin (if bindings.changed then 1 else 0) l.grants grants trial.slot
+        → KeepsLogsWithin (if bindings.changed then 1 else 0) l.grants grants attempt.slot
         → ((names : List (List ℕ)) (s : Store) → Shows l.heap names s
         → AreWithin l.heap names s words → Shows heap names (if bindings.changed then
         with_part_elements s (part_of (birth_at l.heap) over) at (values_in l.heap names words)
@@ -139,13 +139,13 @@ module _ (l : Lent) (good : IsGood l) (over : Part) (at depth : ℕ)
     bind_stored heap grants keeps sound logs shows =
         stored_on l good _ (later_good l good over at depth (drop 1 l.frames) top bindings words
         all within) heap grants scratch l.printed l.room keeps sound empty least (omega arith)
-        (bind_asks over at) running_turn trial Goes tt
-        (logs_more _ _ l.grants grants trial.slot (one_or_none bindings.changed) logs)
+        (bind_asks over at) running_turn attempt Goes tt
+        (logs_more _ _ l.grants grants attempt.slot (one_or_none bindings.changed) logs)
         λ s shown. record {
           later = with_part_elements s (part_of (birth_at l.heap) over) at
               (values_in l.heap l.names words);
           is = λ machine was address.
-              goes_as trial.refused (running_turn l s) _ (bind_leaves l good over at depth
+              goes_as attempt.refused (running_turn l s) _ (bind_leaves l good over at depth
               (drop 1 l.frames) top bindings words all within s shown) l.printed machine was;
           shows = subst (Shows heap l.names) (left_as l good over at depth (drop 1 l.frames) top
               bindings words all within s shown bindings.changed refl)
@@ -157,6 +157,6 @@ module _ (l : Lent) (good : IsGood l) (over : Part) (at depth : ℕ)
           lasts = part_last l.heap over
               (bind_held l good over at depth (drop 1 l.frames) top).0 l.names s shown.shows at _;
           leaves = tt;
-          logs = subst (λ n. KeepsLogsWithin n l.grants grants trial.slot)
+          logs = subst (λ n. KeepsLogsWithin n l.grants grants attempt.slot)
               (sym (leads_records s shown)) logs;
         }

@@ -20,7 +20,7 @@ use Rattle.ps_ops_control.specs.declared.frames.Frame.TheVariants.{Pending, Proc
 use Rattle.ps_ops_control.specs.Frames.{IsHeld, frames_in, IsFrame, AreFrames, IsFrameWithin, AreFramesWithin}
 use Rattle.ps_ops_state.specs.Lent.{Lent, IsShown, IsGood}
 use Rattle.ps_ops_operands.specs.declared.failure.NotMade.{NotMade as Reason}
-use Rattle.ps_ops_state.specs.declared.lent.Trial.{Trial}
+use Rattle.ps_ops_state.specs.declared.lent.Attempt.{Attempt}
 use Rattle.ps_step_outcome.specs.declared.turned.Turned.{Turned}
 use Rattle.ps_step_outcome.specs.Turns.{IsShownWith, Turns, TurnsWith}
 use Rattle.ps_step_outcome.proofs.Composing.{AreGood, restacked_shown, composes}
@@ -120,25 +120,25 @@ module _ (l : Lent) (rest : Part) (below : List Frame) (top : l.frames ≡ Proce
       -- what doing it comes to, over the frames that are left, is the turn of the procedure
       module _ (good : IsGood l)
           (within : (s : Store) → IsShown l s → IsWithin (birth_at l.heap) l.names s word)
-          (asks : Asks) (trial : Trial) where
+          (asks : Asks) (attempt : Attempt) where
         abbrev Does : Result Turned Reason → Lent → Type 0
         Does result new = TurnsWith (word ∷ word ∷ []) [] (executed_asks asks word)
-            (done_turn word word) trial result (with_frames (rest_frames rest below) l) new
+            (done_turn word word) attempt result (with_frames (rest_frames rest below) l) new
 
         pub element_made : (turned : Turned) (new : Lent) → Does (Ok turned) new
-            → Turns (frame_asks asks) running_turn trial (Ok turned) l new
+            → Turns (frame_asks asks) running_turn attempt (Ok turned) l new
         element_made turned new turns =
             composes l l.operands (rest_frames rest below) (frame_asks asks)
-            (executed_asks asks word) running_turn (done_turn word word) trial
+            (executed_asks asks word) running_turn (done_turn word word) attempt
             (IsShownWith (word ∷ word ∷ []) []) (element_shown good within) procedure_is
             (procedure_asks asks) turned new turns
 
         pub element_unmade : (reason : Reason) (new : Lent) → Does (Err reason) new
-            → Turns (frame_asks asks) running_turn trial (Err reason) l
+            → Turns (frame_asks asks) running_turn attempt (Err reason) l
             (record new { frames = l.frames })
         element_unmade reason new turns =
             unmade_over l (rest_frames rest below) (frame_asks asks) (executed_asks asks word)
-            running_turn (done_turn word word) trial (IsShownWith (word ∷ word ∷ []) [])
+            running_turn (done_turn word word) attempt (IsShownWith (word ∷ word ∷ []) [])
             (element_shown good within) procedure_is (procedure_asks asks) good reason new turns
 
 -- ---- a value that waits

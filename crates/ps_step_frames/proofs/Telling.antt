@@ -20,7 +20,7 @@ use Rattle.ps_dict.proofs.Changing.{with-lengths}
 use Rattle.ps_dict.proofs.Shapes.{there}
 use Rattle.ps_ops_control.specs.declared.frames.Cause.TheVariants.{Stop}
 use Rattle.ps_ops_control.specs.Frames.{frames_in}
-use Rattle.ps_ops_state.specs.declared.lent.Trial.{Trial}
+use Rattle.ps_ops_state.specs.declared.lent.Attempt.{Attempt}
 use Rattle.ps_ops_state.specs.Acts.{Lasts}
 use Rattle.ps_ops_state.specs.Lent.{Lent, scene_of, IsShown, IsGood}
 use Rattle.ps_ops_state.proofs.Meeting.{at_least-same, logs_more}
@@ -41,7 +41,7 @@ unfolding with_owner
 free_apart t i j other = slice_get-set_other t i j (lock_object None) other
 
 module _ (l : Lent) (good : IsGood l) (lock : ℕ) (known : StandsAs l.heap LockKind lock 1)
-    (trial : Trial) (last : l.frames ≡ []) (new : (s : Store) → IsShown l s
+    (attempt : Attempt) (last : l.frames ≡ []) (new : (s : Store) → IsShown l s
     → has_new_error (dictionary_at s (birth_at l.heap l.error_dictionary)) ≡ true) where
   abbrev birth : ℕ
   birth = birth_at l.heap l.error_dictionary
@@ -50,10 +50,10 @@ module _ (l : Lent) (good : IsGood l) (lock : ℕ) (known : StandsAs l.heap Lock
   d s = dictionary_at s birth
 
   abbrev free : Store → Store
-  free s = freed_store l good lock known trial s
+  free s = freed_store l good lock known attempt s
 
   same : (s : Store) → IsShown l s → dictionary_at (free s) birth ≡ d s
-  same s shown = same_dictionary l good lock known trial s shown
+  same s shown = same_dictionary l good lock known attempt s shown
 
   pub is_told_here : (s : Store) → IsShown l s
       → tells for_stop (scene_of l s).frames (d s) ≡ true
@@ -73,7 +73,7 @@ module _ (l : Lent) (good : IsGood l) (lock : ℕ) (known : StandsAs l.heap Lock
   none s = ap (frames_in l.heap l.names) last
 
   line_needed : (s : Store) → IsShown l s
-      → (needs_in trial lock_asks (releasing_turn Stop lock) l s).bytes
+      → (needs_in attempt lock_asks (releasing_turn Stop lock) l s).bytes
       ≡ length (error_line s (d s))
   line_needed s shown =
       (λ i. length (if is_told (none s i) (dictionary_at (free s) birth) then
@@ -84,13 +84,13 @@ module _ (l : Lent) (good : IsGood l) (lock : ℕ) (known : StandsAs l.heap Lock
 
   -- the output has no room for the line
   pub line_lacks : (grants : Grants) (room : ℕ) → l.room ≤ room
-      → KeepsLogsWithin 0 l.grants grants trial.slot
+      → KeepsLogsWithin 0 l.grants grants attempt.slot
       → ((s : Store) → IsShown l s → l.room < length (error_line s (d s)))
-      → Turns lock_asks (releasing_turn Stop lock) trial (Err Memory) l
+      → Turns lock_asks (releasing_turn Stop lock) attempt (Err Memory) l
       (record l { grants = grants; room = room })
   line_lacks grants room more logs few =
       not_turned l l.scratch good.empty (at_least-same _) good grants room more lock_asks
-      (releasing_turn Stop lock) trial Memory logs λ s shown.
+      (releasing_turn Stop lock) attempt Memory logs λ s shown.
       let less = few s shown in
       let needed = line_needed s shown in
       inl (omega (arith, less, needed))
@@ -112,17 +112,17 @@ module _ (l : Lent) (good : IsGood l) (lock : ℕ) (known : StandsAs l.heap Lock
   -- the line is printed, and the error is new no more
   pub told_release : (heap : Heap) (grants : Grants) (printed : List ℕ) (room : ℕ)
       → Keeps l.heap heap → IsSound heap → length l.printed + l.room ≤ length printed + room
-      → KeepsLogsWithin 2 l.grants grants trial.slot
+      → KeepsLogsWithin 2 l.grants grants attempt.slot
       → ((s : Store) → IsShown l s → printed ≡ l.printed ++ error_line s (d s))
       → ((s : Store) → IsShown l s → Shows heap l.names
       (with_owner (with_dictionary s birth (told (d s))) (birth_at l.heap lock) None))
-      → Turns lock_asks (releasing_turn Stop lock) trial (Ok (Ends true)) l
+      → Turns lock_asks (releasing_turn Stop lock) attempt (Ok (Ends true)) l
       (record l { heap = heap; grants = grants; printed = printed; room = room })
   told_release heap grants printed room keeps sound capacity logs lined shows =
       stored_on l good l.frames (here_good l good) heap grants l.scratch printed
       room keeps sound good.empty (at_least-same _) capacity lock_asks (releasing_turn Stop lock)
-      trial (Ends true) tt
-      (logs_more 2 most_records l.grants grants trial.slot (omega arith) logs) λ s shown.
+      attempt (Ends true) tt
+      (logs_more 2 most_records l.grants grants attempt.slot (omega arith) logs) λ s shown.
       let kept : Scene = record (scene_of l s) { store = free s } in
       let lock_there = lock_shown l.heap lock known l.names s shown.shows in
       let stands = there l.heap l.error_dictionary good.error_stands.stands good.sound l.names s
@@ -130,8 +130,8 @@ module _ (l : Lent) (good : IsGood l) (lock : ℕ) (known : StandsAs l.heap Lock
       record {
         later = with_dictionary (free s) birth (told (d s));
         is = λ machine was address.
-            stops_told kept (none s) trial.refused machine birth address (new_free s shown)
-            ∙ (λ i. reaches (settled (ended kept (none s) trial.refused machine
+            stops_told kept (none s) attempt.refused machine birth address (new_free s shown)
+            ∙ (λ i. reaches (settled (ended kept (none s) attempt.refused machine
             (with_dictionary (free s) birth (told (same s shown i)))
             (((λ j. was j ++ error_line (free s) (dictionary_at (free s) birth))
             ∙ (ap (λ line. l.printed ++ line) (line_same s shown) ∙ sym (lined s shown))) i)
@@ -140,6 +140,6 @@ module _ (l : Lent) (good : IsGood l) (lock : ℕ) (known : StandsAs l.heap Lock
             lock_there.0 lock_there.1 birth (d s) (told (d s)) stands) (shows s shown);
         lasts = told_last s shown;
         leaves = tt;
-        logs = subst (λ n. KeepsLogsWithin n l.grants grants trial.slot)
-            (sym (asked_records l good lock known trial Stop true is_told_here s shown)) logs;
+        logs = subst (λ n. KeepsLogsWithin n l.grants grants attempt.slot)
+            (sym (asked_records l good lock known attempt Stop true is_told_here s shown)) logs;
       }

@@ -23,10 +23,10 @@ use Rattle.ps_ops_control.specs.declared.frames.Frame.TheVariants.{Text, Procedu
 use Rattle.ps_ops_control.specs.declared.ahead.Ahead.{Ahead}
 use Rattle.ps_ops_control.specs.Ahead.{OnDone, frames_ahead}
 use Rattle.ps_ops_control.specs.Turns.{cause_of}
-use Rattle.ps_ops_state.specs.declared.lent.Trial.{Trial}
+use Rattle.ps_ops_state.specs.declared.lent.Attempt.{Attempt}
 use Rattle.ps_ops_state.specs.Acts.{Asked, no_rooms}
 use Rattle.ps_ops_state.specs.Lent.{Lent, scene_of, around_of}
-use Rattle.ps_ops_state.specs.Trials.{ordinary}
+use Rattle.ps_ops_state.specs.Attempts.{ordinary}
 use Rattle.ps_ops_state.specs.Unframed.{IsUndone}
 use Rattle.ps_step_outcome.specs.declared.turned.Turned.{Turned}
 use Rattle.ps_step_outcome.specs.declared.turned.Turned.TheVariants.{Goes, Breaks, Ends}
@@ -170,8 +170,8 @@ above rest l = with_frames (Procedure rest ∷ l.frames) l
 -- the turn of the topmost frame goes on, however it is tried, once the frame is pushed of the
 -- procedure that it enters
 abbrev pub GoesAhead : Asks → Ahead → (old new : Lent) → Type 0
-GoesAhead asks came old new = OnDone came ((trial : Trial)
-    → Turns (frame_asks asks) running_turn trial (Ok Goes) old (with_entered came new))
+GoesAhead asks came old new = OnDone came ((attempt : Attempt)
+    → Turns (frame_asks asks) running_turn attempt (Ok Goes) old (with_entered came new))
 
 -- the ordinary turn of a procedure above the frames goes on, of which what is left is above them;
 -- or

@@ -9,7 +9,7 @@ ghost use Rattle.ps_mem.specs.Meaning.{part_of};
 ghost use Rattle.ps_mem.specs.Shows.{AreValues, AreWithin, IsSound, Shows};
 ghost use Rattle.ps_ops_operands.specs.Changes.{KeepsLogsWithin, spent, values_in};
 ghost use Rattle.ps_ops_control.specs.Frames.{IsHeld};
-ghost use Rattle.ps_ops_state.specs.Lent.{lent, IsGood};
+ghost use Rattle.ps_ops_state.specs.Lent.{lent_of, IsGood};
 ghost use Rattle.ps_stacks.specs.Tops.{first_of};
 ghost use Rattle.ps_step_outcome.specs.Turns.{IsUnlogged, Turns};
 ghost use Rattle.ps_step_frames.specs.Binds as binds;
@@ -21,7 +21,7 @@ use ps_language::operators::Operator;
 use ps_mem::{Memory, Slot};
 use ps_ops_control::frames::{Frame, Frames};
 use ps_ops_operands::failure::NotMade;
-use ps_ops_state::lent::{Context, Shared, Trial};
+use ps_ops_state::lent::{Attempt, Context, Runtime};
 use ps_seq::arrays::set_elements;
 use ps_step_outcome::breaks::permit_records;
 use ps_step_outcome::raises::raise_by;
@@ -130,30 +130,34 @@ pub fn bind_turn<M: Memory>(
     at: u32,
     depth: u32,
     context: &mut Context,
-    shared: &mut Shared,
-    memory: &mut M,
-    trial: Trial,
+    runtime: &mut Runtime<M>,
+    attempt: Attempt,
 ) -> Result<Turned, NotMade>
-    requires good { IsGood
-        (lent (M.heap memory.old) (M.grants memory.old) context.old shared.old) }
+    requires good { IsGood (lent_of M.heap M.grants context.old runtime.old) }
     requires top { first_of context.old.frames ≡ Some (Frame.Bind over at depth) }
-    ensures { Turns (bind_asks over at) running_turn trial result
-        (lent (M.heap memory.old) (M.grants memory.old) context.old shared.old)
-        (lent (M.heap memory.new) (M.grants memory.new) context.new shared.new) }
+    ensures { Turns (bind_asks over at) running_turn attempt result
+        (lent_of M.heap M.grants context.old runtime.old)
+        (lent_of M.heap M.grants context.new runtime.new) }
 {
     let place = at as u16;
-    let words = &mut shared.scratch.words;
+    let words = &mut runtime.shared.scratch.words;
     match words.reserve((over.length - place) as usize) {
         Ok(()) => {}
         Err(AllocError) => return Err(NotMade::Memory),
     }
-    let bound = bind_elements(over, place, &context.dictionaries, memory, words);
+    let bound = bind_elements(
+        over,
+        place,
+        &context.dictionaries,
+        &mut runtime.memory,
+        words,
+    );
     match within_limits(bound, depth, &context.frames) {
         Ok(bindings) => {
             let behind = at + words.len() as u32;
             let stored = store_bound(
-                memory,
-                trial.slot,
+                &mut runtime.memory,
+                attempt.slot,
                 over,
                 place,
                 bindings.changed,
@@ -169,7 +173,7 @@ pub fn bind_turn<M: Memory>(
         }
         Err(error) => {
             words.clear();
-            raise_by(Operator::Bind, error, context, shared, memory, trial)
+            raise_by(Operator::Bind, error, context, runtime, attempt)
         }
     }
 }

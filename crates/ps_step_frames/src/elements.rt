@@ -1,7 +1,7 @@
 //! Steps by the elements of a procedure, and by a value that waits (PLRM2, 3.5).
 
 ghost use Rattle.std.specs.Prelude.{◌≡◌, ◌<◌, ◌∷◌, [], Some, IfSome, length};
-ghost use Rattle.ps_ops_state.specs.Lent.{lent, IsGood};
+ghost use Rattle.ps_ops_state.specs.Lent.{lent_of, IsGood};
 ghost use Rattle.ps_stacks.specs.Tops.{first_of};
 ghost use Rattle.ps_mem.specs.Shows.{IsValue};
 ghost use Rattle.ps_step_outcome.specs.Turns.{Turns, TurnsWith};
@@ -12,7 +12,7 @@ use crate::frames::{advance, drop_top, push_rest, put_back};
 use ps_mem::{Memory, Slot};
 use ps_ops_control::frames::{Frame, push_frame};
 use ps_ops_operands::failure::NotMade;
-use ps_ops_state::lent::{Context, Shared, Trial};
+use ps_ops_state::lent::{Attempt, Context, Runtime};
 use ps_seq::arrays::element;
 use ps_step_execute::operates::Operate;
 use ps_step_execute::under::{Under, treat_under};
@@ -37,20 +37,18 @@ pub fn procedure_turn<O: Operate, M: Memory>(
     rest: Part,
     operators: &O,
     context: &mut Context,
-    shared: &mut Shared,
-    memory: &mut M,
-    trial: Trial,
+    runtime: &mut Runtime<M>,
+    attempt: Attempt,
 ) -> Result<Turned, NotMade>
-    requires good { IsGood
-        (lent (M.heap memory.old) (M.grants memory.old) context.old shared.old) }
+    requires good { IsGood (lent_of M.heap M.grants context.old runtime.old) }
     requires top { first_of context.old.frames ≡ Some (Frame.Procedure rest) }
-    ensures { Turns (frame_asks O.asks) running_turn trial result
-        (lent (M.heap memory.old) (M.grants memory.old) context.old shared.old)
-        (lent (M.heap memory.new) (M.grants memory.new) context.new shared.new) }
+    ensures { Turns (frame_asks O.asks) running_turn attempt result
+        (lent_of M.heap M.grants context.old runtime.old)
+        (lent_of M.heap M.grants context.new runtime.new) }
 {
-    let word = element(memory, rest, 0);
+    let word = element(&mut runtime.memory, rest, 0);
     advance(&mut context.frames, rest, 1);
-    match do_element(word, word, operators, context, shared, memory, trial) {
+    match do_element(word, word, operators, context, runtime, attempt) {
         Ok(turned) => Ok(turned),
         Err(reason) => {
             put_back(&mut context.frames, rest);
@@ -66,20 +64,18 @@ fn treat_apart<O: Operate, M: Memory>(
     command: Word,
     operators: &O,
     context: &mut Context,
-    shared: &mut Shared,
-    memory: &mut M,
-    trial: Trial,
+    runtime: &mut Runtime<M>,
+    attempt: Attempt,
 ) -> Result<Turned, NotMade>
-    requires good { IsGood
-        (lent (M.heap memory.old) (M.grants memory.old) context.old shared.old) }
-    requires value { IsValue (M.heap memory.old) value }
-    requires command { IsValue (M.heap memory.old) command }
+    requires good { IsGood (lent_of M.heap M.grants context.old runtime.old) }
+    requires value { IsValue (M.heap runtime.old.memory) value }
+    requires command { IsValue (M.heap runtime.old.memory) command }
     ensures { TurnsWith (value ∷ command ∷ []) [] (treated_asks O.asks value)
-        (treated_turn command value) trial result
-        (lent (M.heap memory.old) (M.grants memory.old) context.old shared.old)
-        (lent (M.heap memory.new) (M.grants memory.new) context.new shared.new) }
+        (treated_turn command value) attempt result
+        (lent_of M.heap M.grants context.old runtime.old)
+        (lent_of M.heap M.grants context.new runtime.new) }
 {
-    treat(value, command, operators, context, shared, memory, trial)
+    treat(value, command, operators, context, runtime, attempt)
 }
 
 /// The first element of a procedure above the frames is done, as its value is treated; what is left
@@ -93,22 +89,21 @@ fn element_turn<O: Operate, M: Memory>(
     element: Element,
     operators: &O,
     context: &mut Context,
-    shared: &mut Shared,
-    memory: &mut M,
-    trial: Trial,
+    runtime: &mut Runtime<M>,
+    attempt: Attempt,
 ) -> Result<Turned, NotMade>
     requires good { IsGood (above rest
-        (lent (M.heap memory.old) (M.grants memory.old) context.old shared.old)) }
+        (lent_of M.heap M.grants context.old runtime.old)) }
     requires room { length context.old.frames < 250 }
-    requires element { IsElement O.asks (M.heap memory.old) context.old.dictionaries rest 0
+    requires element { IsElement O.asks (M.heap runtime.old.memory) context.old.dictionaries rest 0
         element }
-    ensures { Turns (frame_asks O.asks) running_turn trial result
-        (above rest (lent (M.heap memory.old) (M.grants memory.old) context.old shared.old))
-        (lent (M.heap memory.new) (M.grants memory.new) context.new shared.new) }
+    ensures { Turns (frame_asks O.asks) running_turn attempt result
+        (above rest (lent_of M.heap M.grants context.old runtime.old))
+        (lent_of M.heap M.grants context.new runtime.new) }
 {
     let Element { word, value } = element;
     push_rest(&mut context.frames, rest);
-    match treat_apart(value, word, operators, context, shared, memory, trial) {
+    match treat_apart(value, word, operators, context, runtime, attempt) {
         Ok(turned) => Ok(turned),
         Err(reason) => {
             put_back(&mut context.frames, rest);
@@ -126,21 +121,20 @@ pub fn element_under<O: Operate, M: Memory>(
     first: Option<Element>,
     operators: &O,
     context: &mut Context,
-    shared: &mut Shared,
-    memory: &mut M,
+    runtime: &mut Runtime<M>,
     slot: Slot,
 ) -> Under
     requires good { IsGood (above rest
-        (lent (M.heap memory.old) (M.grants memory.old) context.old shared.old)) }
+        (lent_of M.heap M.grants context.old runtime.old)) }
     requires first { IfSome first
-        (IsElement O.asks (M.heap memory.old) context.old.dictionaries rest 0) }
+        (IsElement O.asks (M.heap runtime.old.memory) context.old.dictionaries rest 0) }
     ensures frames { context.new.frames ≡ context.old.frames }
     ensures does { DoesUnder O.asks rest slot result
-        (lent (M.heap memory.old) (M.grants memory.old) context.old shared.old)
-        (lent (M.heap memory.new) (M.grants memory.new) context.new shared.new) }
+        (lent_of M.heap M.grants context.old runtime.old)
+        (lent_of M.heap M.grants context.new runtime.new) }
 {
     match first {
-        Some(element) => treat_under(element.value, operators, context, shared, memory, slot),
+        Some(element) => treat_under(element.value, operators, context, runtime, slot),
         None => Under::Left,
     }
 }
@@ -155,24 +149,23 @@ pub fn pushed_turn<O: Operate, M: Memory>(
     first: Option<Element>,
     operators: &O,
     context: &mut Context,
-    shared: &mut Shared,
-    memory: &mut M,
-    trial: Trial,
+    runtime: &mut Runtime<M>,
+    attempt: Attempt,
 ) -> Result<Turned, NotMade>
     requires good { IsGood (above rest
-        (lent (M.heap memory.old) (M.grants memory.old) context.old shared.old)) }
+        (lent_of M.heap M.grants context.old runtime.old)) }
     requires room { length context.old.frames < 250 }
     requires first { IfSome first
-        (IsElement O.asks (M.heap memory.old) context.old.dictionaries rest 0) }
-    ensures { Turns (frame_asks O.asks) running_turn trial result
-        (above rest (lent (M.heap memory.old) (M.grants memory.old) context.old shared.old))
-        (lent (M.heap memory.new) (M.grants memory.new) context.new shared.new) }
+        (IsElement O.asks (M.heap runtime.old.memory) context.old.dictionaries rest 0) }
+    ensures { Turns (frame_asks O.asks) running_turn attempt result
+        (above rest (lent_of M.heap M.grants context.old runtime.old))
+        (lent_of M.heap M.grants context.new runtime.new) }
 {
     match first {
-        Some(element) => element_turn(rest, element, operators, context, shared, memory, trial),
+        Some(element) => element_turn(rest, element, operators, context, runtime, attempt),
         None => {
             push_frame(&mut context.frames, Frame::Procedure { rest });
-            procedure_turn(rest, operators, context, shared, memory, trial)
+            procedure_turn(rest, operators, context, runtime, attempt)
         }
     }
 }
@@ -186,19 +179,17 @@ pub fn pending_turn<O: Operate, M: Memory>(
     word: Word,
     operators: &O,
     context: &mut Context,
-    shared: &mut Shared,
-    memory: &mut M,
-    trial: Trial,
+    runtime: &mut Runtime<M>,
+    attempt: Attempt,
 ) -> Result<Turned, NotMade>
-    requires good { IsGood
-        (lent (M.heap memory.old) (M.grants memory.old) context.old shared.old) }
+    requires good { IsGood (lent_of M.heap M.grants context.old runtime.old) }
     requires top { first_of context.old.frames ≡ Some (Frame.Pending word) }
-    ensures { Turns (frame_asks O.asks) running_turn trial result
-        (lent (M.heap memory.old) (M.grants memory.old) context.old shared.old)
-        (lent (M.heap memory.new) (M.grants memory.new) context.new shared.new) }
+    ensures { Turns (frame_asks O.asks) running_turn attempt result
+        (lent_of M.heap M.grants context.old runtime.old)
+        (lent_of M.heap M.grants context.new runtime.new) }
 {
     drop_top(&mut context.frames);
-    match execute(word, word, operators, context, shared, memory, trial) {
+    match execute(word, word, operators, context, runtime, attempt) {
         Ok(turned) => Ok(turned),
         Err(reason) => {
             push_frame(&mut context.frames, Frame::Pending { word });

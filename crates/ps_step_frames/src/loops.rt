@@ -1,7 +1,7 @@
 //! The turns of loops, and the end of `stopped` (PLRM2, 3.4, 8 'Operators': Control).
 
 ghost use Rattle.std.specs.Prelude.{◌≡◌, ◌<◌, Some, OnOk, Ok};
-ghost use Rattle.ps_ops_state.specs.Lent.{lent, IsGood};
+ghost use Rattle.ps_ops_state.specs.Lent.{lent_of, IsGood};
 ghost use Rattle.ps_stacks.specs.Tops.{first_of};
 ghost use Rattle.ps_step_outcome.specs.Turns.{Turns, nothing_more};
 ghost use Rattle.ps_step_frames.specs.Steps.{outcome_turn, running_turn, truth_turn};
@@ -15,7 +15,7 @@ use ps_ops_control::frames::{Frame, push_frame};
 use ps_ops_control::turns::{for_turn, forall_turn, loop_turn, repeat_turn};
 use ps_ops_operands::failure::NotMade;
 use ps_ops_operands::plain;
-use ps_ops_state::lent::{Context, Shared, Trial};
+use ps_ops_state::lent::{Attempt, Context, Runtime};
 use ps_step_outcome::raises::raise_by;
 use ps_step_outcome::turned::Turned;
 use ps_word::values::Part;
@@ -30,20 +30,18 @@ fn settle<M: Memory>(
     outcome: Result<(), ErrorName>,
     operator: Operator,
     context: &mut Context,
-    shared: &mut Shared,
-    memory: &mut M,
-    trial: Trial,
+    runtime: &mut Runtime<M>,
+    attempt: Attempt,
 ) -> Result<Turned, NotMade>
-    requires good { IsGood
-        (lent (M.heap memory.old) (M.grants memory.old) context.old shared.old) }
-    ensures turns { Turns nothing_more (outcome_turn operator outcome) trial result
-        (lent (M.heap memory.old) (M.grants memory.old) context.old shared.old)
-        (lent (M.heap memory.new) (M.grants memory.new) context.new shared.new) }
+    requires good { IsGood (lent_of M.heap M.grants context.old runtime.old) }
+    ensures turns { Turns nothing_more (outcome_turn operator outcome) attempt result
+        (lent_of M.heap M.grants context.old runtime.old)
+        (lent_of M.heap M.grants context.new runtime.new) }
     ensures goes { OnOk outcome (result ≡ Ok Turned.Goes) }
 {
     match outcome {
         Ok(()) => Ok(Turned::Goes),
-        Err(error) => raise_by(operator, error, context, shared, memory, trial),
+        Err(error) => raise_by(operator, error, context, runtime, attempt),
     }
 }
 
@@ -53,24 +51,21 @@ fn settle<M: Memory>(
 pub(crate) fn push_truth<M: Memory>(
     truth: bool,
     context: &mut Context,
-    shared: &mut Shared,
-    memory: &mut M,
-    trial: Trial,
+    runtime: &mut Runtime<M>,
+    attempt: Attempt,
 ) -> Result<Turned, NotMade>
-    requires good { IsGood
-        (lent (M.heap memory.old) (M.grants memory.old) context.old shared.old) }
-    ensures { Turns nothing_more (truth_turn truth) trial result
-        (lent (M.heap memory.old) (M.grants memory.old) context.old shared.old)
-        (lent (M.heap memory.new) (M.grants memory.new) context.new shared.new) }
+    requires good { IsGood (lent_of M.heap M.grants context.old runtime.old) }
+    ensures { Turns nothing_more (truth_turn truth) attempt result
+        (lent_of M.heap M.grants context.old runtime.old)
+        (lent_of M.heap M.grants context.new runtime.new) }
 {
     if context.operands.is_full() {
         return raise_by(
             Operator::Stopped,
             ErrorName::StackOverflow,
             context,
-            shared,
-            memory,
-            trial,
+            runtime,
+            attempt,
         );
     }
     context.operands.push_reserved(plain::boolean(truth));
@@ -83,19 +78,17 @@ pub(crate) fn push_truth<M: Memory>(
 pub fn loop_step<M: Memory>(
     body: Part,
     context: &mut Context,
-    shared: &mut Shared,
-    memory: &mut M,
-    trial: Trial,
+    runtime: &mut Runtime<M>,
+    attempt: Attempt,
 ) -> Result<Turned, NotMade>
-    requires good { IsGood
-        (lent (M.heap memory.old) (M.grants memory.old) context.old shared.old) }
+    requires good { IsGood (lent_of M.heap M.grants context.old runtime.old) }
     requires top { first_of context.old.frames ≡ Some (Frame.Loop body) }
-    ensures { Turns nothing_more running_turn trial result
-        (lent (M.heap memory.old) (M.grants memory.old) context.old shared.old)
-        (lent (M.heap memory.new) (M.grants memory.new) context.new shared.new) }
+    ensures { Turns nothing_more running_turn attempt result
+        (lent_of M.heap M.grants context.old runtime.old)
+        (lent_of M.heap M.grants context.new runtime.new) }
 {
     let outcome = loop_turn(&mut context.operands, &mut context.frames, body);
-    settle(outcome, Operator::Loop, context, shared, memory, trial)
+    settle(outcome, Operator::Loop, context, runtime, attempt)
 }
 
 /// A turn of `repeat`, or its end where no turn is left. Raises `execstackoverflow`; the loop is as
@@ -106,19 +99,17 @@ pub fn repeat_step<M: Memory>(
     count: usize,
     body: Part,
     context: &mut Context,
-    shared: &mut Shared,
-    memory: &mut M,
-    trial: Trial,
+    runtime: &mut Runtime<M>,
+    attempt: Attempt,
 ) -> Result<Turned, NotMade>
-    requires good { IsGood
-        (lent (M.heap memory.old) (M.grants memory.old) context.old shared.old) }
+    requires good { IsGood (lent_of M.heap M.grants context.old runtime.old) }
     requires top { first_of context.old.frames ≡ Some (Frame.Repeat count body) }
-    ensures { Turns nothing_more running_turn trial result
-        (lent (M.heap memory.old) (M.grants memory.old) context.old shared.old)
-        (lent (M.heap memory.new) (M.grants memory.new) context.new shared.new) }
+    ensures { Turns nothing_more running_turn attempt result
+        (lent_of M.heap M.grants context.old runtime.old)
+        (lent_of M.heap M.grants context.new runtime.new) }
 {
     let outcome = repeat_turn(&mut context.operands, &mut context.frames, count, body);
-    settle(outcome, Operator::Repeat, context, shared, memory, trial)
+    settle(outcome, Operator::Repeat, context, runtime, attempt)
 }
 
 /// A turn of `for`, which pushes the control value, or its end past the limit. Raises
@@ -131,16 +122,14 @@ pub fn for_step<M: Memory>(
     limit: i32,
     body: Part,
     context: &mut Context,
-    shared: &mut Shared,
-    memory: &mut M,
-    trial: Trial,
+    runtime: &mut Runtime<M>,
+    attempt: Attempt,
 ) -> Result<Turned, NotMade>
-    requires good { IsGood
-        (lent (M.heap memory.old) (M.grants memory.old) context.old shared.old) }
+    requires good { IsGood (lent_of M.heap M.grants context.old runtime.old) }
     requires top { first_of context.old.frames ≡ Some (Frame.For control increment limit body) }
-    ensures { Turns nothing_more running_turn trial result
-        (lent (M.heap memory.old) (M.grants memory.old) context.old shared.old)
-        (lent (M.heap memory.new) (M.grants memory.new) context.new shared.new) }
+    ensures { Turns nothing_more running_turn attempt result
+        (lent_of M.heap M.grants context.old runtime.old)
+        (lent_of M.heap M.grants context.new runtime.new) }
 {
     let outcome = for_turn(
         &mut context.operands,
@@ -150,7 +139,7 @@ pub fn for_step<M: Memory>(
         limit,
         body,
     );
-    settle(outcome, Operator::For, context, shared, memory, trial)
+    settle(outcome, Operator::For, context, runtime, attempt)
 }
 
 /// A turn of `forall`, which pushes what stands at its place, or its end past the last. Raises
@@ -162,18 +151,16 @@ pub fn forall_step<M: Memory>(
     at: usize,
     body: Part,
     context: &mut Context,
-    shared: &mut Shared,
-    memory: &mut M,
-    trial: Trial,
+    runtime: &mut Runtime<M>,
+    attempt: Attempt,
 ) -> Result<Turned, NotMade>
-    requires good { IsGood
-        (lent (M.heap memory.old) (M.grants memory.old) context.old shared.old) }
+    requires good { IsGood (lent_of M.heap M.grants context.old runtime.old) }
     requires top { first_of context.old.frames ≡ Some (Frame.Forall over at body) }
-    ensures { Turns nothing_more running_turn trial result
-        (lent (M.heap memory.old) (M.grants memory.old) context.old shared.old)
-        (lent (M.heap memory.new) (M.grants memory.new) context.new shared.new) }
+    ensures { Turns nothing_more running_turn attempt result
+        (lent_of M.heap M.grants context.old runtime.old)
+        (lent_of M.heap M.grants context.new runtime.new) }
 {
-    match operands_at(over, at, memory) {
+    match operands_at(over, at, &mut runtime.memory) {
         None => {
             drop_top(&mut context.frames);
             Ok(Turned::Goes)
@@ -187,7 +174,7 @@ pub fn forall_step<M: Memory>(
                 body,
                 Some(pushed),
             );
-            settle(outcome, Operator::Forall, context, shared, memory, trial)
+            settle(outcome, Operator::Forall, context, runtime, attempt)
         }
     }
 }
@@ -198,19 +185,17 @@ pub fn forall_step<M: Memory>(
 /// Not made, with nothing changed: as the note of an error.
 pub fn stopped_step<M: Memory>(
     context: &mut Context,
-    shared: &mut Shared,
-    memory: &mut M,
-    trial: Trial,
+    runtime: &mut Runtime<M>,
+    attempt: Attempt,
 ) -> Result<Turned, NotMade>
-    requires good { IsGood
-        (lent (M.heap memory.old) (M.grants memory.old) context.old shared.old) }
+    requires good { IsGood (lent_of M.heap M.grants context.old runtime.old) }
     requires top { first_of context.old.frames ≡ Some Frame.Stopped }
-    ensures { Turns nothing_more running_turn trial result
-        (lent (M.heap memory.old) (M.grants memory.old) context.old shared.old)
-        (lent (M.heap memory.new) (M.grants memory.new) context.new shared.new) }
+    ensures { Turns nothing_more running_turn attempt result
+        (lent_of M.heap M.grants context.old runtime.old)
+        (lent_of M.heap M.grants context.new runtime.new) }
 {
     drop_top(&mut context.frames);
-    match push_truth(false, context, shared, memory, trial) {
+    match push_truth(false, context, runtime, attempt) {
         Ok(turned) => Ok(turned),
         Err(reason) => {
             push_frame(&mut context.frames, Frame::Stopped);

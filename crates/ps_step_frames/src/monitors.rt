@@ -17,7 +17,7 @@ use ps_language::kinds::Kind;
 use ps_mem::{Memory, Slot};
 use ps_ops_control::frames::Frame;
 use ps_ops_operands::failure::NotMade;
-use ps_ops_state::lent::{Context, Shared, Trial};
+use ps_ops_state::lent::{Attempt, Context, Shared};
 use ps_step_outcome::breaks::permit_records;
 use ps_step_outcome::turned::Turned;
 use ps_word::words::Word;
@@ -46,20 +46,20 @@ pub fn monitor_turn<M: Memory>(
     context: &mut Context,
     shared: &Shared,
     memory: &mut M,
-    trial: Trial,
+    attempt: Attempt,
 ) -> Result<Turned, NotMade>
     requires good { IsGood
         (lent (M.heap memory.old) (M.grants memory.old) context.old shared.now) }
     requires top { first_of context.old.frames ≡ Some (Frame.Monitor lock) }
-    ensures { Turns lock_asks running_turn trial result
+    ensures { Turns lock_asks running_turn attempt result
         (lent (M.heap memory.old) (M.grants memory.old) context.old shared.now)
         (lent (M.heap memory.new) (M.grants memory.new) context.new shared.now) }
 {
-    match permit_records(memory, trial.slot, 1) {
+    match permit_records(memory, attempt.slot, 1) {
         Ok(()) => {}
         Err(reason) => return Err(reason),
     }
-    free_lock(memory, trial.slot, lock);
+    free_lock(memory, attempt.slot, lock);
     drop_top(&mut context.frames);
     Ok(Turned::Goes)
 }

@@ -15,7 +15,7 @@ ghost use Rattle.ps_dict.specs.Places.{first_place, pairs_at, place_of};
 ghost use Rattle.ps_ops_operands.specs.FirstNames.{BeginWithFirst};
 ghost use Rattle.ps_ops_control.specs.Frames.{frames_in};
 ghost use Rattle.ps_ops_control.specs.Turns.{cause_of};
-ghost use Rattle.ps_ops_state.specs.Lent.{lent, IsGood};
+ghost use Rattle.ps_ops_state.specs.Lent.{lent_of, IsGood};
 ghost use Rattle.ps_stacks.specs.Tops.{first_of};
 ghost use Rattle.ps_step_outcome.specs.Entries.{IsNamed};
 ghost use Rattle.ps_step_outcome.specs.Turns.{IsUnlogged, Turns};
@@ -32,7 +32,7 @@ use ps_mem::{Memory, Slot};
 use ps_ops_control::frames::{Cause, Frame, Frames, push_frame};
 use ps_ops_operands::failure::NotMade;
 use ps_ops_operands::plain;
-use ps_ops_state::lent::{Context, Shared, Trial};
+use ps_ops_state::lent::{Attempt, Context, Runtime};
 use ps_step_outcome::breaks::{has_new_error, permit_records, print_line};
 use ps_step_outcome::notes::error_keys;
 use ps_step_outcome::turned::Turned;
@@ -129,49 +129,54 @@ fn tell<M: Memory>(
     place: u32,
     newerror: Word,
     context: &mut Context,
-    shared: &mut Shared,
-    memory: &mut M,
-    trial: Trial,
+    runtime: &mut Runtime<M>,
+    attempt: Attempt,
 ) -> Result<Turned, NotMade>
-    requires good { IsGood
-        (lent (M.heap memory.old) (M.grants memory.old) context.old shared.old) }
-    requires known { StandsAs (M.heap memory.old) Kind.Lock lock 1 }
+    requires good { IsGood (lent_of M.heap M.grants context.old runtime.old) }
+    requires known { StandsAs (M.heap runtime.old.memory) Kind.Lock lock 1 }
     requires last { context.old.frames ≡ [] }
     requires key { IsNamed 131 newerror }
     requires words { Some place
-        ≡ place_of (pairs_at (M.heap memory.old) context.old.error_dictionary) newerror }
+        ≡ place_of (pairs_at (M.heap runtime.old.memory) context.old.error_dictionary) newerror }
     requires place { (names : List (List ℕ)) (s : Store) → BeginWithFirst names
-        → AllPairs (λ one later. one ≢ later) names → Shows (M.heap memory.old) names s
-        → Some place ≡ first_place (dictionary_at s (birth_at (M.heap memory.old)
+        → AllPairs (λ one later. one ≢ later) names → Shows (M.heap runtime.old.memory) names s
+        → Some place ≡ first_place (dictionary_at s (birth_at (M.heap runtime.old.memory)
         context.old.error_dictionary)).pairs language.newerror_key }
     requires new { (names : List (List ℕ)) (s : Store) → BeginWithFirst names
-        → AllPairs (λ one later. one ≢ later) names → Shows (M.heap memory.old) names s
+        → AllPairs (λ one later. one ≢ later) names → Shows (M.heap runtime.old.memory) names s
         → language.has_new_error (dictionary_at s
-        (birth_at (M.heap memory.old) context.old.error_dictionary)) ≡ true }
-    ensures { Turns lock_asks (releasing_turn Cause.Stop lock) trial result
-        (lent (M.heap memory.old) (M.grants memory.old) context.old shared.old)
-        (lent (M.heap memory.new) (M.grants memory.new) context.new shared.new) }
+        (birth_at (M.heap runtime.old.memory) context.old.error_dictionary)) ≡ true }
+    ensures { Turns lock_asks (releasing_turn Cause.Stop lock) attempt result
+        (lent_of M.heap M.grants context.old runtime.old)
+        (lent_of M.heap M.grants context.new runtime.new) }
 {
     let address = context.error_dictionary;
-    match permit_records(memory, trial.slot, 2) {
+    match permit_records(&mut runtime.memory, attempt.slot, 2) {
         Ok(()) => {}
         Err(reason) => return Err(reason),
     }
     let keys = error_keys();
-    match print_line(memory, &shared.names, address, keys, &mut shared.printed) {
+    let shared = &mut runtime.shared;
+    match print_line(
+        &mut runtime.memory,
+        &shared.names,
+        address,
+        keys,
+        &mut shared.printed,
+    ) {
         Ok(()) => {}
         Err(AllocError) => return Err(NotMade::Memory),
     }
     let plan = PutPlan::Replace(place);
     put(
-        memory,
-        trial.slot,
+        &mut runtime.memory,
+        attempt.slot,
         address,
         plan,
         newerror,
         plain::boolean(false),
     );
-    free_lock(memory, trial.slot, lock);
+    free_lock(&mut runtime.memory, attempt.slot, lock);
     Ok(Turned::Ends { told: true })
 }
 
@@ -184,22 +189,20 @@ fn break_released<M: Memory>(
     cause: Cause,
     lock: u32,
     context: &mut Context,
-    shared: &mut Shared,
-    memory: &mut M,
-    trial: Trial,
+    runtime: &mut Runtime<M>,
+    attempt: Attempt,
 ) -> Result<Turned, NotMade>
-    requires good { IsGood
-        (lent (M.heap memory.old) (M.grants memory.old) context.old shared.old) }
-    requires known { StandsAs (M.heap memory.old) Kind.Lock lock 1 }
-    ensures { Turns lock_asks (releasing_turn cause lock) trial result
-        (lent (M.heap memory.old) (M.grants memory.old) context.old shared.old)
-        (lent (M.heap memory.new) (M.grants memory.new) context.new shared.new) }
+    requires good { IsGood (lent_of M.heap M.grants context.old runtime.old) }
+    requires known { StandsAs (M.heap runtime.old.memory) Kind.Lock lock 1 }
+    ensures { Turns lock_asks (releasing_turn cause lock) attempt result
+        (lent_of M.heap M.grants context.old runtime.old)
+        (lent_of M.heap M.grants context.new runtime.new) }
 {
     let key = error_keys().newerror;
     let address = context.error_dictionary;
-    match place_of_told(cause, &context.frames, address, key, memory) {
-        Some(place) => tell(lock, place, key, context, shared, memory, trial),
-        None => match release(memory, trial.slot, lock) {
+    match place_of_told(cause, &context.frames, address, key, &mut runtime.memory) {
+        Some(place) => tell(lock, place, key, context, runtime, attempt),
+        None => match release(&mut runtime.memory, attempt.slot, lock) {
             Ok(()) => Ok(untold(cause, &context.frames)),
             Err(reason) => Err(reason),
         },
@@ -215,19 +218,17 @@ pub fn unwind_monitor<M: Memory>(
     cause: Cause,
     lock: u32,
     context: &mut Context,
-    shared: &mut Shared,
-    memory: &mut M,
-    trial: Trial,
+    runtime: &mut Runtime<M>,
+    attempt: Attempt,
 ) -> Result<Turned, NotMade>
-    requires good { IsGood
-        (lent (M.heap memory.old) (M.grants memory.old) context.old shared.old) }
+    requires good { IsGood (lent_of M.heap M.grants context.old runtime.old) }
     requires top { first_of context.old.frames ≡ Some (Frame.Monitor lock) }
-    ensures { Turns unwinding_asks (unwinding_turn cause) trial result
-        (lent (M.heap memory.old) (M.grants memory.old) context.old shared.old)
-        (lent (M.heap memory.new) (M.grants memory.new) context.new shared.new) }
+    ensures { Turns unwinding_asks (unwinding_turn cause) attempt result
+        (lent_of M.heap M.grants context.old runtime.old)
+        (lent_of M.heap M.grants context.new runtime.new) }
 {
     drop_top(&mut context.frames);
-    match break_released(cause, lock, context, shared, memory, trial) {
+    match break_released(cause, lock, context, runtime, attempt) {
         Ok(turned) => Ok(turned),
         Err(reason) => {
             push_frame(&mut context.frames, Frame::Monitor { lock });

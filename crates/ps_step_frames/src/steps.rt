@@ -1,7 +1,7 @@
 //! A step of a running context by its topmost frame (PLRM2, 3.4, 3.5).
 
 ghost use Rattle.std.specs.Prelude.{◌≡◌, ◌<◌, IsTrue, Some};
-ghost use Rattle.ps_ops_state.specs.Lent.{lent, IsGood};
+ghost use Rattle.ps_ops_state.specs.Lent.{lent_of, IsGood};
 ghost use Rattle.ps_stacks.specs.Tops.{first_of};
 ghost use Rattle.ps_step_outcome.specs.Turns.{Turns};
 ghost use Rattle.ps_step_frames.specs.Steps.{frame_asks, is_stepped, running_turn};
@@ -13,7 +13,7 @@ use crate::monitors::monitor_turn;
 use ps_mem::Memory;
 use ps_ops_control::frames::Frame;
 use ps_ops_operands::failure::NotMade;
-use ps_ops_state::lent::{Context, Shared, Trial};
+use ps_ops_state::lent::{Attempt, Context, Runtime};
 use ps_step_execute::operates::Operate;
 use ps_step_outcome::turned::Turned;
 
@@ -29,41 +29,39 @@ pub fn frame_turn<O: Operate, M: Memory>(
     top: Frame,
     operators: &O,
     context: &mut Context,
-    shared: &mut Shared,
-    memory: &mut M,
-    trial: Trial,
+    runtime: &mut Runtime<M>,
+    attempt: Attempt,
 ) -> Result<Turned, NotMade>
-    requires good { IsGood
-        (lent (M.heap memory.old) (M.grants memory.old) context.old shared.old) }
+    requires good { IsGood (lent_of M.heap M.grants context.old runtime.old) }
     requires top { first_of context.old.frames ≡ Some top }
     requires here { IsTrue (is_stepped top) }
-    ensures { Turns (frame_asks O.asks) running_turn trial result
-        (lent (M.heap memory.old) (M.grants memory.old) context.old shared.old)
-        (lent (M.heap memory.new) (M.grants memory.new) context.new shared.new) }
+    ensures { Turns (frame_asks O.asks) running_turn attempt result
+        (lent_of M.heap M.grants context.old runtime.old)
+        (lent_of M.heap M.grants context.new runtime.new) }
 {
     match top {
-        Frame::Procedure { rest } => {
-            procedure_turn(rest, operators, context, shared, memory, trial)
-        }
-        Frame::Pending { word } => pending_turn(word, operators, context, shared, memory, trial),
-        Frame::Repeat { count, body } => repeat_step(count, body, context, shared, memory, trial),
-        Frame::Loop { body } => loop_step(body, context, shared, memory, trial),
+        Frame::Procedure { rest } => { procedure_turn(rest, operators, context, runtime, attempt) }
+        Frame::Pending { word } => pending_turn(word, operators, context, runtime, attempt),
+        Frame::Repeat { count, body } => repeat_step(count, body, context, runtime, attempt),
+        Frame::Loop { body } => loop_step(body, context, runtime, attempt),
         Frame::For {
             control,
             increment,
             limit,
             body,
-        } => for_step(
-            control, increment, limit, body, context, shared, memory, trial,
-        ),
+        } => for_step(control, increment, limit, body, context, runtime, attempt),
         Frame::Forall { over, at, body } => {
-            forall_step(over, at, body, context, shared, memory, trial)
+            forall_step(over, at, body, context, runtime, attempt)
         }
-        Frame::Stopped => stopped_step(context, shared, memory, trial),
-        Frame::Bind { over, at, depth } => {
-            bind_turn(over, at, depth, context, shared, memory, trial)
-        }
-        Frame::Monitor { lock } => monitor_turn(lock, context, shared, memory, trial),
+        Frame::Stopped => stopped_step(context, runtime, attempt),
+        Frame::Bind { over, at, depth } => { bind_turn(over, at, depth, context, runtime, attempt) }
+        Frame::Monitor { lock } => monitor_turn(
+            lock,
+            context,
+            &runtime.shared,
+            &mut runtime.memory,
+            attempt,
+        ),
         Frame::Text { .. } => unreachable!(),
     }
 }

@@ -1,7 +1,7 @@
 //! One frame of an unwinding for `stop`, `exit` or `quit` (PLRM2, 3.10, 8 'Operators': Control).
 
 ghost use Rattle.std.specs.Prelude.{◌≡◌, ◌<◌, Some, false};
-ghost use Rattle.ps_ops_state.specs.Lent.{lent, IsGood};
+ghost use Rattle.ps_ops_state.specs.Lent.{lent_of, IsGood};
 ghost use Rattle.ps_ops_control.specs.Turns as control;
 ghost use Rattle.ps_stacks.specs.Tops.{first_of};
 ghost use Rattle.ps_step_outcome.specs.Turns.{Turns, nothing_more};
@@ -14,7 +14,7 @@ use ps_mem::Memory;
 use ps_ops_control::frames::{Cause, Frame, push_frame};
 use ps_ops_control::unwinding::{ends_at_loop, ends_at_stopped};
 use ps_ops_operands::failure::NotMade;
-use ps_ops_state::lent::{Context, Shared, Trial};
+use ps_ops_state::lent::{Attempt, Context, Runtime};
 use ps_step_outcome::breaks::break_off;
 use ps_step_outcome::turned::Turned;
 
@@ -27,24 +27,22 @@ fn after_frame<M: Memory>(
     cause: Cause,
     frame: Frame,
     context: &mut Context,
-    shared: &mut Shared,
-    memory: &mut M,
-    trial: Trial,
+    runtime: &mut Runtime<M>,
+    attempt: Attempt,
 ) -> Result<Turned, NotMade>
-    requires good { IsGood
-        (lent (M.heap memory.old) (M.grants memory.old) context.old shared.old) }
+    requires good { IsGood (lent_of M.heap M.grants context.old runtime.old) }
     ensures { Turns nothing_more (gone_turn (control.ends_at_loop cause frame)
-        (control.ends_at_stopped cause frame) cause) trial result
-        (lent (M.heap memory.old) (M.grants memory.old) context.old shared.old)
-        (lent (M.heap memory.new) (M.grants memory.new) context.new shared.new) }
+        (control.ends_at_stopped cause frame) cause) attempt result
+        (lent_of M.heap M.grants context.old runtime.old)
+        (lent_of M.heap M.grants context.new runtime.new) }
 {
     if ends_at_loop(cause, frame) {
         return Ok(Turned::Goes);
     }
     if ends_at_stopped(cause, frame) {
-        return push_truth(true, context, shared, memory, trial);
+        return push_truth(true, context, runtime, attempt);
     }
-    break_off(cause, context, shared, memory, trial)
+    break_off(cause, context, runtime, attempt)
 }
 
 /// One frame of an unwinding goes, which holds no lock. The unwinding ends at the frame of
@@ -57,20 +55,18 @@ fn unwind_unlocked<M: Memory>(
     cause: Cause,
     top: Frame,
     context: &mut Context,
-    shared: &mut Shared,
-    memory: &mut M,
-    trial: Trial,
+    runtime: &mut Runtime<M>,
+    attempt: Attempt,
 ) -> Result<Turned, NotMade>
-    requires good { IsGood
-        (lent (M.heap memory.old) (M.grants memory.old) context.old shared.old) }
+    requires good { IsGood (lent_of M.heap M.grants context.old runtime.old) }
     requires top { first_of context.old.frames ≡ Some top }
     requires free { control.is_monitor top ≡ false }
-    ensures { Turns nothing_more (unwinding_turn cause) trial result
-        (lent (M.heap memory.old) (M.grants memory.old) context.old shared.old)
-        (lent (M.heap memory.new) (M.grants memory.new) context.new shared.new) }
+    ensures { Turns nothing_more (unwinding_turn cause) attempt result
+        (lent_of M.heap M.grants context.old runtime.old)
+        (lent_of M.heap M.grants context.new runtime.new) }
 {
     drop_top(&mut context.frames);
-    match after_frame(cause, top, context, shared, memory, trial) {
+    match after_frame(cause, top, context, runtime, attempt) {
         Ok(turned) => Ok(turned),
         Err(reason) => {
             push_frame(&mut context.frames, top);
@@ -90,19 +86,17 @@ pub fn unwind_turn<M: Memory>(
     cause: Cause,
     top: Frame,
     context: &mut Context,
-    shared: &mut Shared,
-    memory: &mut M,
-    trial: Trial,
+    runtime: &mut Runtime<M>,
+    attempt: Attempt,
 ) -> Result<Turned, NotMade>
-    requires good { IsGood
-        (lent (M.heap memory.old) (M.grants memory.old) context.old shared.old) }
+    requires good { IsGood (lent_of M.heap M.grants context.old runtime.old) }
     requires top { first_of context.old.frames ≡ Some top }
-    ensures { Turns unwinding_asks (unwinding_turn cause) trial result
-        (lent (M.heap memory.old) (M.grants memory.old) context.old shared.old)
-        (lent (M.heap memory.new) (M.grants memory.new) context.new shared.new) }
+    ensures { Turns unwinding_asks (unwinding_turn cause) attempt result
+        (lent_of M.heap M.grants context.old runtime.old)
+        (lent_of M.heap M.grants context.new runtime.new) }
 {
     match top {
-        Frame::Monitor { lock } => unwind_monitor(cause, lock, context, shared, memory, trial),
-        _ => unwind_unlocked(cause, top, context, shared, memory, trial),
+        Frame::Monitor { lock } => unwind_monitor(cause, lock, context, runtime, attempt),
+        _ => unwind_unlocked(cause, top, context, runtime, attempt),
     }
 }

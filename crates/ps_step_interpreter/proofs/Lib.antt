@@ -6,6 +6,5 @@ pub mod Turning
 pub mod Beginning
 pub mod Laws
 pub mod Running
-pub mod Making
 pub mod Owning
 mod AloneExamples

@@ -1,12 +1,10 @@
 -- Own steps of a running context, one after another.
 use Rattle.std.proofs.Common.{◌≡◌, ◌≢◌, ℕ, zero, suc, ◌+◌, Bool, true, false, Option, Some, None, List, [], ◌∷◌, map}
-use Rattle.std.proofs.Common.{refl, sym, ◌∙◌, ap, subst, IsTrue, Ok, arith}
+use Rattle.std.proofs.Common.{refl, sym, ◌∙◌, ap, subst, Ok, arith}
 use Rattle.std.specs.Prelude.{option_and_then}
-use Rattle.std.proofs.lemmas.List.{replicate_more}
 use Rattle.ps_language.specs.Effect.{Around, Scene}
-use Rattle.ps_language.specs.Machines.{may_end, is_empty, settled, Reached, reaches, leaves_to_world, after_turn}
+use Rattle.ps_language.specs.Machines.{may_end, is_empty, settled, after_turn}
 use Rattle.ps_language.specs.Machines.{own_step}
-use Rattle.ps_language.specs.Schedules.{plain_move}
 use Rattle.ps_language.specs.Value.{Store}
 use Rattle.ps_language.specs.World.{Status, running, unwinding, Machine}
 use Rattle.ps_mem.specs.Heap.{birth_at}
@@ -17,18 +15,15 @@ use Rattle.ps_ops_control.specs.Frames.{frame_of}
 use Rattle.ps_ops_control.specs.Turns.{cause_of}
 use Rattle.ps_ops_state.specs.Acts.{Asked, Lasts}
 use Rattle.ps_ops_state.specs.Lent.{Lent, IsGood}
-use Rattle.ps_ops_state.specs.Trials.{ordinary}
+use Rattle.ps_ops_state.specs.Attempts.{ordinary}
 use Rattle.ps_ops_state.proofs.Meeting.{keeps-same, lasts-same, stays_as, stays_then, at_least-same}
 use Rattle.ps_step_outcome.specs.declared.turned.Turned.{Turned}
 use Rattle.ps_step_outcome.specs.declared.turned.Turned.TheVariants.{Goes, Calls, Breaks, Ends}
 use Rattle.ps_step_outcome.specs.Turns.{Turns, IsTurned, IsUnderWay, status_of, lines_after, reached_by}
-use Rattle.ps_step_interpreter.specs.Alone.{alone_step, is_alone_ready, after_alone_moves, all_alone_ready}
 use Rattle.ps_step_interpreter.specs.Courses.{going, course_after, IsLentBy, IsAtBy}
 use Rattle.ps_step_interpreter.specs.Interprets.{asks_in, own_turn, status_in}
-use Rattle.ps_step_interpreter.specs.Makes.{plain_moves, HasMade}
-use Rattle.ps_step_interpreter.specs.OwnSteps.{machine_in, own_next, own_after, status_with, ComesTo, HasCome, HasRun}
-use Rattle.ps_step_interpreter.proofs.Laws.{first_ready, ready_move, after_more, ready_more}
-use Rattle.ps_step_interpreter.proofs.Made.{next, came, next_lent, settled_at, steady_after}
+use Rattle.ps_step_interpreter.specs.OwnSteps.{machine_in, own_next, own_after, status_with, HasCome, HasRun}
+use Rattle.ps_step_interpreter.proofs.Made.{next, came, next_lent, settled_at}
 use Rattle.ps_step_interpreter.proofs.Reached.{IsMade, settled_framed, settled_ends}
 use Rattle.ps_step_interpreter.proofs.Turning.{may_in, turn_by}
 
@@ -268,100 +263,3 @@ pub run_more : (asks : Status → Around → Scene → Asked) (slot made : ℕ) 
     → HasRun (made + 1) old new
 run_more asks slot made old mid new so_far framed turns =
     come_more asks slot made None Goes tt old mid new (running_come made old mid so_far framed) turns
-
--- ---- own steps of a context by itself
-
-reached_alone : (program : List ℕ) (reached : Reached) (mid next : Machine)
-    → own_step program false mid ≡ reached → machine_in reached ≡ Some next
-    → alone_step program false mid ≡ next
-unfolding alone_step
-reached_alone program (reaches machine) mid next is same = rw is (cc)
-reached_alone program (leaves_to_world calling machine) mid next is same = absurd (cc)
-
-pub record IsAloneStep (program : List ℕ) (mid next : Machine) : Type 0 where
-  pub may : may_end mid.context.status ≡ true
-  pub step : alone_step program false mid ≡ next
-
-one_alone : (program : List ℕ) (mid next : Machine) → own_next program mid ≡ Some next
-    → IsAloneStep program mid next
-one_alone program mid next is = by (may_end mid.context.status) refl
-  where
-    by : (b : Bool) → may_end mid.context.status ≡ b → IsAloneStep program mid next
-    by true may = record {
-      may = may;
-      step = reached_alone program (own_step program false mid) mid next refl
-          ((rw may at is));
-    }
-    by false over = absurd (let bad : None ≡ Some next = (rw over at is) in cc)
-
-pub record AreAlone (program : List ℕ) (made : ℕ) (machine next : Machine) : Type 0 where
-  pub after : after_alone_moves program machine (plain_moves made) ≡ next
-  pub ready : IsTrue (all_alone_ready program machine (plain_moves made))
-
-alone_more : (program : List ℕ) (made : ℕ) (machine mid next : Machine)
-    → AreAlone program made machine mid → IsAloneStep program mid next
-    → AreAlone program (suc made) machine next
-alone_more program made machine mid next so_far one =
-    let at : made + 1 ≡ suc made = omega arith in
-    let ready : is_alone_ready (after_alone_moves program machine (plain_moves made)) 1 ≡ true =
-    rw so_far.after (first_ready mid ∙ one.may) in
-    subst (λ n. AreAlone program n machine next) at (record {
-      after = ap (after_alone_moves program machine) (sym (replicate_more made (plain_move 1)))
-          ∙ (after_more program machine (plain_moves made) (plain_move 1)
-          ∙ (ready_move program (after_alone_moves program machine (plain_moves made))
-          (plain_move 1) ready
-          ∙ (ap (alone_step program false) so_far.after ∙ one.step)));
-      ready = subst (λ ms. IsTrue (all_alone_ready program machine ms))
-          (replicate_more made (plain_move 1))
-          (ready_more program machine (plain_moves made) (plain_move 1) so_far.ready ready);
-    })
-
--- by what the steps before it came to
-alone_after : (program : List ℕ) (made : ℕ) (machine last : Machine) (so_far : Option Machine)
-    → ((mid : Machine) → so_far ≡ Some mid → AreAlone program made machine mid)
-    → option_and_then (own_next program) so_far ≡ Some last
-    → AreAlone program (suc made) machine last
-alone_after program made machine last None are is = absurd (cc)
-alone_after program made machine last (Some mid) are is =
-    alone_more program made machine mid last (are mid refl) (one_alone program mid last is)
-
-pub own_alone : (program : List ℕ) (made : ℕ) (machine last : Machine)
-    → own_after program made machine ≡ Some last → AreAlone program made machine last
-unfolding own_after after_alone_moves
-own_alone program zero machine last is = record { after = cc; ready = refl }
-own_alone program (suc made) machine last is =
-    alone_after program made machine last (own_after program made machine)
-    (own_alone program made machine) is
-
--- a run is so many steps of a context by itself
-module _ (made : ℕ) (old new : Lent) (run : HasRun made old new) where
-  module _ (machine : Machine) (at : IsAtBy (course_after Goes old.frames) old 0 machine) where
-    lent_here : IsLentBy old (status_with old.frames) 0 machine
-    lent_here = lent_going old.frames old 0 machine at
-
-    none_told : machine.error_lines ≡ 0
-    none_told = lent_here.error_lines
-
-    comes_here : ComesTo old.program made machine new
-    comes_here = run.comes machine
-        (subst (λ n. IsLentBy old (status_with old.frames) n machine) (sym none_told) lent_here)
-
-    alone_here : AreAlone old.program made machine comes_here.next
-    alone_here = own_alone old.program made machine comes_here.next comes_here.steps
-
-    at_next : IsAtBy (course_after Goes new.frames) new 0
-        (after_alone_moves old.program machine (plain_moves made))
-    at_next =
-        subst (IsAtBy (course_after Goes new.frames) new 0) (sym alone_here.after)
-        (going_lent new.frames new 0 comes_here.next
-        (subst (λ n. IsLentBy new (status_with new.frames) n comes_here.next) none_told
-        comes_here.lent))
-
-  pub made_by : HasMade made (going old) (going new)
-  made_by = record {
-    at = at_next;
-    ready = λ machine at. (alone_here machine at).ready;
-    steady = steady_after Goes new 0 run.good tt refl;
-    program = run.stays.program;
-    most = run.stays.most;
-  }

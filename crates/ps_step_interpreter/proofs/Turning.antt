@@ -14,14 +14,14 @@ use Rattle.ps_ops_operands.specs.declared.failure.NotMade.TheVariants.{LogFull, 
 use Rattle.ps_ops_operands.specs.Changes.{KeepsLogsWithin}
 use Rattle.ps_ops_control.specs.declared.frames.Cause.{Cause}
 use Rattle.ps_ops_control.specs.declared.frames.Frame.{Frame}
-use Rattle.ps_ops_state.specs.declared.lent.Trial.{Trial}
+use Rattle.ps_ops_state.specs.declared.lent.Attempt.{Attempt}
 use Rattle.ps_ops_state.specs.Acts.{Asked, Needs, IsAtLeast, IsReason, LacksRooms}
 use Rattle.ps_ops_state.specs.Lent.{Lent, Rooms, scene_of, around_of, rooms_of}
 use Rattle.ps_ops_state.proofs.Meeting.{logs_more, logs_then, stays_then, AreNeedsWithin, needs_within-same, reason_more}
 use Rattle.ps_step_outcome.specs.declared.turned.Turned.{Turned}
 use Rattle.ps_step_outcome.specs.declared.turned.Turned.TheVariants.{Calls}
 use Rattle.ps_step_outcome.specs.Turns.{Turns, IsTurned, calling_of, turn_needs, needs_in, lines_after}
-use Rattle.ps_step_interpreter.specs.declared.courses.Course.TheVariants.{Calling}
+use Rattle.ps_step_interpreter.specs.declared.courses.AloneCourse.TheVariants.{Calling}
 use Rattle.ps_step_interpreter.specs.Alone.{alone_reached, alone_step}
 use Rattle.ps_step_interpreter.specs.Courses.{Held, held, course_in, has_steps, course_after, IsLentBy, IsCalling, IsAtBy}
 use Rattle.ps_step_interpreter.specs.Courses.{HasFrame, IsSteady}
@@ -118,9 +118,9 @@ turn_by l status lines machine lent = λ i. turn_as
     (lent.is_so i) (sym lent.scene i).frames (sym lent.scene i)
 
 module _ (asks : Status → Around → Scene → Asked) (unwinding : Option Cause) (old : Lent)
-    (lines : ℕ) (trial : Trial) where
+    (lines : ℕ) (attempt : Attempt) where
   abbrev needs_of : Machine → Needs
-  needs_of machine = alone_needs asks old.program trial.refused machine
+  needs_of machine = alone_needs asks old.program attempt.refused machine
 
   abbrev here : Held
   here = held old (course_in unwinding) lines
@@ -129,40 +129,40 @@ module _ (asks : Status → Around → Scene → Asked) (unwinding : Option Caus
     turn_same : machine_turn old.program machine ≡ own_turn unwinding old machine.store
     turn_same = turn_by old (status_in unwinding) lines machine lent
 
-    step_same : alone_step old.program trial.refused machine
-        ≡ alone_reached (after_turn trial.refused machine (own_turn unwinding old machine.store))
+    step_same : alone_step old.program attempt.refused machine
+        ≡ alone_reached (after_turn attempt.refused machine (own_turn unwinding old machine.store))
     unfolding alone_step own_step
     step_same =
-        ap (λ (t : Turn). alone_reached (after_turn trial.refused machine t)) turn_same
+        ap (λ (t : Turn). alone_reached (after_turn attempt.refused machine t)) turn_same
 
     needs_same : needs_of machine
-        ≡ alone_turn_needs trial.refused (asks_in asks unwinding old machine.store)
+        ≡ alone_turn_needs attempt.refused (asks_in asks unwinding old machine.store)
         (birth_at old.heap old.error_dictionary) (scene_of old machine.store)
         (own_turn unwinding old machine.store)
-    needs_same = λ i. alone_turn_needs trial.refused
+    needs_same = λ i. alone_turn_needs attempt.refused
         (asks (lent.is_so i)
         (record { program = old.program; error_dictionary = lent.error_dictionary i })
         (sym lent.scene i)) (lent.error_dictionary i) (sym lent.scene i) (turn_same i)
 
     within : AreNeedsWithin
-        (needs_in trial (asks_in asks unwinding) (own_turn unwinding) old machine.store)
+        (needs_in attempt (asks_in asks unwinding) (own_turn unwinding) old machine.store)
         (needs_of machine)
     within = subst
         (AreNeedsWithin
-        (needs_in trial (asks_in asks unwinding) (own_turn unwinding) old machine.store))
+        (needs_in attempt (asks_in asks unwinding) (own_turn unwinding) old machine.store))
         (sym needs_same)
-        (more trial.refused (asks_in asks unwinding old machine.store)
+        (more attempt.refused (asks_in asks unwinding old machine.store)
         (birth_at old.heap old.error_dictionary) (scene_of old machine.store)
         (own_turn unwinding old machine.store))
 
   module _ (new : Lent) (steady : IsSteady here) where
     abbrev Turned_by : Result Turned Reason → Type 0
-    Turned_by result = Turns (asks_in asks unwinding) (own_turn unwinding) trial result old new
+    Turned_by result = Turns (asks_in asks unwinding) (own_turn unwinding) attempt result old new
 
     -- it is made
     turn_made : (turned : Turned) → IsMade turned → Turned_by (Ok turned) → (machine : Machine)
         → IsAtBy (course_in unwinding) old lines machine
-        → StepsFrom (needs_of machine) (alone_step old.program trial.refused machine) trial
+        → StepsFrom (needs_of machine) (alone_step old.program attempt.refused machine) attempt
         (Ok (tt {0})) machine here
         (held new (course_after turned new.frames) (lines_after turned lines))
     turn_made turned made turns machine at =
@@ -172,14 +172,14 @@ module _ (asks : Status → Around → Scene → Asked) (unwinding : Option Caus
         record {
           did = subst (IsAtBy (course_after turned new.frames) new (lines_after turned lines))
               (sym (step_same machine lent))
-              (made_at trial.refused (own_turn unwinding old machine.store) turned old new
+              (made_at attempt.refused (own_turn unwinding old machine.store) turned old new
               (status_in unwinding) lines machine lent steady.good turns.keeps turns.stays by.did
               turns.under_way made);
-          logs = logs_more _ _ old.grants new.grants trial.slot records by.logs;
+          logs = logs_more _ _ old.grants new.grants attempt.slot records by.logs;
         }
 
     pub steps_made : (turned : Turned) → IsMade turned → Turned_by (Ok turned)
-        → Steps asks trial (Ok (tt {0})) here
+        → Steps asks attempt (Ok (tt {0})) here
         (held new (course_after turned new.frames) (lines_after turned lines))
     steps_made turned made turns = record {
       meets = turn_made turned made turns;
@@ -192,24 +192,24 @@ module _ (asks : Status → Around → Scene → Asked) (unwinding : Option Caus
     -- it is not
     turn_unmade : (reason : Reason) → Turned_by (Err reason) → (machine : Machine)
         → IsAtBy (course_in unwinding) old lines machine
-        → StepsFrom (needs_of machine) (alone_step old.program trial.refused machine) trial
+        → StepsFrom (needs_of machine) (alone_step old.program attempt.refused machine) attempt
         (Err reason) machine here (held new (course_in unwinding) lines)
     turn_unmade reason turns machine at =
         let lent = lent_at unwinding old lines machine at in
         let by = turns.meets machine.store lent.shown in
-        let why = reason_more _ (needs_of machine) (within machine lent) trial.slot old new reason
+        let why = reason_more _ (needs_of machine) (within machine lent) attempt.slot old new reason
         by.did.0 in
         record {
           did = (
             at_same old new (course_in unwinding) lines machine by.did.1 at,
             why,
-            held_up (needs_of machine) trial.slot old new reason by.did.1 turns.logs.closed why,
+            held_up (needs_of machine) attempt.slot old new reason by.did.1 turns.logs.closed why,
           );
           logs = by.logs;
         }
 
     pub steps_unmade : (reason : Reason) → Turned_by (Err reason)
-        → Steps asks trial (Err reason) here (held new (course_in unwinding) lines)
+        → Steps asks attempt (Err reason) here (held new (course_in unwinding) lines)
     steps_unmade reason turns = record {
       meets = turn_unmade reason turns;
       steady = record {
@@ -224,21 +224,21 @@ module _ (asks : Status → Around → Scene → Asked) (unwinding : Option Caus
   -- ---- an operator is left to the world
 
   module _ (operator : Operator) (mid : Lent) (steady : IsSteady here)
-      (turns : Turns (asks_in asks unwinding) (own_turn unwinding) trial (Ok (Calls operator)) old
+      (turns : Turns (asks_in asks unwinding) (own_turn unwinding) attempt (Ok (Calls operator)) old
       mid) where
     module _ (machine : Machine) (lent : IsLentBy old (status_in unwinding) lines machine) where
-      turned : IsTurned trial.refused (own_turn unwinding old machine.store) (Calls operator)
+      turned : IsTurned attempt.refused (own_turn unwinding old machine.store) (Calls operator)
           machine.store old mid
       turned = (turns.meets machine.store lent.shown).did
 
       abbrev left : Machine
-      left = next trial.refused (own_turn unwinding old machine.store) (Calls operator) old mid
+      left = next attempt.refused (own_turn unwinding old machine.store) (Calls operator) old mid
           (status_in unwinding) lines machine lent steady.good turns.keeps turns.stays turned
 
       is_left : IsLeft machine (own_turn unwinding old machine.store) (calling_of operator) left
-      is_left = left_by trial.refused machine (own_turn unwinding old machine.store)
+      is_left = left_by attempt.refused machine (own_turn unwinding old machine.store)
           (calling_of operator) left
-          (came trial.refused (own_turn unwinding old machine.store) (Calls operator) old mid
+          (came attempt.refused (own_turn unwinding old machine.store) (Calls operator) old mid
           (status_in unwinding) lines machine lent steady.good turns.keeps turns.stays turned)
 
       leaves : (refused : Bool)
@@ -253,18 +253,18 @@ module _ (asks : Status → Around → Scene → Asked) (unwinding : Option Caus
       calling : IsCalling mid operator lines machine
       calling = record {
         left = left;
-        lent = next_lent trial.refused (own_turn unwinding old machine.store) (Calls operator) old
+        lent = next_lent attempt.refused (own_turn unwinding old machine.store) (Calls operator) old
             mid (status_in unwinding) lines machine lent steady.good turns.keeps turns.stays turned;
         goes_on = ap may_end lent.is_so ∙ may_in unwinding;
         leaves = leaves;
       }
 
-      logs_none : KeepsLogsWithin 0 old.grants mid.grants trial.slot
+      logs_none : KeepsLogsWithin 0 old.grants mid.grants attempt.slot
       logs_none =
           subst (λ (t : Turn). KeepsLogsWithin
-          (turn_needs trial.refused (asks_in asks unwinding old machine.store)
+          (turn_needs attempt.refused (asks_in asks unwinding old machine.store)
           (birth_at old.heap old.error_dictionary) (scene_of old machine.store) t).records
-          old.grants mid.grants trial.slot) is_left.asks
+          old.grants mid.grants attempt.slot) is_left.asks
           (turns.meets machine.store lent.shown).logs
 
       more_room : old.room ≤ mid.room
@@ -276,42 +276,42 @@ module _ (asks : Status → Around → Scene → Asked) (unwinding : Option Caus
           omega (arith, count, capacity)
 
       reason_old : (new : Lent) (reason : Reason)
-          → IsReason (alone_needs asks mid.program trial.refused machine) trial.slot mid new reason
-          → IsReason (alone_needs asks mid.program trial.refused machine) trial.slot old new reason
+          → IsReason (alone_needs asks mid.program attempt.refused machine) attempt.slot mid new reason
+          → IsReason (alone_needs asks mid.program attempt.refused machine) attempt.slot old new reason
       reason_old new reason why =
-          let same = undefined_needs_same asks mid operator lines trial.refused machine calling in
-          reason_before (alone_needs asks mid.program trial.refused machine) trial.slot old mid new
+          let same = undefined_needs_same asks mid operator lines attempt.refused machine calling in
+          reason_before (alone_needs asks mid.program attempt.refused machine) attempt.slot old mid new
           reason (ap (λ (n : Needs). n.words) same) turns.stays.scratch logs_none.closed more_room
           why
 
       did_old : (after : Machine) (result : Result Unit Reason) (new : Held)
-          → StepsTo (alone_needs asks mid.program trial.refused machine) after trial result machine
+          → StepsTo (alone_needs asks mid.program attempt.refused machine) after attempt result machine
           (held mid (Calling operator) lines) new
-          → StepsTo (alone_needs asks mid.program trial.refused machine) after trial result machine
+          → StepsTo (alone_needs asks mid.program attempt.refused machine) after attempt result machine
           here new
       did_old after (Ok _) new did = did
       did_old after (Err reason) new did = (did.0, reason_old new.lent reason did.1, did.2)
 
     called_from : (result : Result Unit Reason) (new : Held)
-        → Steps asks trial result (held mid (Calling operator) lines) new → (machine : Machine)
+        → Steps asks attempt result (held mid (Calling operator) lines) new → (machine : Machine)
         → IsAtBy (course_in unwinding) old lines machine
-        → StepsFrom (needs_of machine) (alone_step old.program trial.refused machine) trial result
+        → StepsFrom (needs_of machine) (alone_step old.program attempt.refused machine) attempt result
         machine here new
     called_from result new steps machine at =
         let lent = lent_at unwinding old lines machine at in
         let from = steps.meets machine (calling machine lent) in
-        subst (λ (p : List ℕ). StepsFrom (alone_needs asks p trial.refused machine)
-        (alone_step p trial.refused machine) trial result machine here new) turns.stays.program
+        subst (λ (p : List ℕ). StepsFrom (alone_needs asks p attempt.refused machine)
+        (alone_step p attempt.refused machine) attempt result machine here new) turns.stays.program
         (record {
-          did = did_old machine lent (alone_step mid.program trial.refused machine) result new
+          did = did_old machine lent (alone_step mid.program attempt.refused machine) result new
               from.did;
-          logs = logs_then 0 _ _ old.grants mid.grants new.lent.grants trial.slot (omega arith)
+          logs = logs_then 0 _ _ old.grants mid.grants new.lent.grants attempt.slot (omega arith)
               (logs_none machine lent) from.logs;
         })
 
     pub steps_called : (result : Result Unit Reason) (new : Held)
-        → Steps asks trial result (held mid (Calling operator) lines) new
-        → Steps asks trial result here new
+        → Steps asks attempt result (held mid (Calling operator) lines) new
+        → Steps asks attempt result here new
     steps_called result new steps = record {
       meets = called_from result new steps;
       steady = steps.steady;

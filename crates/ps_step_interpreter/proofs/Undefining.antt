@@ -10,13 +10,13 @@ use Rattle.ps_language.specs.World.{Status, running, Machine}
 use Rattle.ps_mem.specs.Heap.{birth_at}
 use Rattle.ps_ops_operands.specs.declared.failure.NotMade.{NotMade as Reason}
 use Rattle.ps_ops_operands.specs.Changes.{KeepsLogsWithin}
-use Rattle.ps_ops_state.specs.declared.lent.Trial.{Trial}
+use Rattle.ps_ops_state.specs.declared.lent.Attempt.{Attempt}
 use Rattle.ps_ops_state.specs.Acts.{Asked, Needs, IsReason, no_rooms}
 use Rattle.ps_ops_state.specs.Lent.{Lent, Rooms, scene_of}
 use Rattle.ps_ops_state.proofs.Meeting.{AreNeedsWithin, reason_more}
 use Rattle.ps_step_outcome.specs.declared.turned.Turned.{Turned}
 use Rattle.ps_step_outcome.specs.Turns.{Turns, calling_of, error_needs, nothing_more, operator_error, lines_after}
-use Rattle.ps_step_interpreter.specs.declared.courses.Course.TheVariants.{Calling}
+use Rattle.ps_step_interpreter.specs.declared.courses.AloneCourse.TheVariants.{Calling}
 use Rattle.ps_step_interpreter.specs.Alone.{alone_reached, alone_step}
 use Rattle.ps_step_interpreter.specs.Courses.{held, course_after, IsCalling, IsAtBy, IsSteady}
 use Rattle.ps_step_interpreter.specs.Needs.{alone_turn_needs, machine_turn, alone_needs}
@@ -78,37 +78,37 @@ module _ (asks : Status → Around → Scene → Asked) (l : Lent) (operator : O
         ap (λ (m : Machine). settled (failed Undefined (command_of operator) m)) left_again
         ∙ ap alone_reached (sym (at.leaves refused))
 
-  module _ (new : Lent) (trial : Trial) (steady : IsSteady (held l (Calling operator) lines)) where
+  module _ (new : Lent) (attempt : Attempt) (steady : IsSteady (held l (Calling operator) lines)) where
     -- it is noted
     undefined_made : (turned : Turned)
-        → Turns nothing_more (operator_error operator Undefined) trial (Ok turned) l new
+        → Turns nothing_more (operator_error operator Undefined) attempt (Ok turned) l new
         → (machine : Machine) → (at : IsCalling l operator lines machine)
-        → StepsFrom (alone_needs asks l.program trial.refused machine)
-        (alone_step l.program trial.refused machine) trial (Ok (tt {0})) machine
+        → StepsFrom (alone_needs asks l.program attempt.refused machine)
+        (alone_step l.program attempt.refused machine) attempt (Ok (tt {0})) machine
         (held l (Calling operator) lines)
         (held new (course_after turned new.frames) (lines_after turned lines))
     undefined_made turned turns machine at =
         let by = turns.meets at.left.store at.lent.shown in
         let turn : Turn = operator_error operator Undefined l at.left.store in
         let made = made_by turned _
-        (next trial.refused turn turned l new running lines at.left at.lent steady.good turns.keeps
+        (next attempt.refused turn turned l new running lines at.left at.lent steady.good turns.keeps
         turns.stays by.did)
-        (came trial.refused turn turned l new running lines at.left at.lent steady.good turns.keeps
+        (came attempt.refused turn turned l new running lines at.left at.lent steady.good turns.keeps
         turns.stays by.did) in
         record {
           did = subst
               (IsAtBy (course_after turned new.frames) new (lines_after turned lines))
-              (next_same trial.refused machine at)
-              (made_at trial.refused turn turned l new running lines at.left at.lent steady.good
+              (next_same attempt.refused machine at)
+              (made_at attempt.refused turn turned l new running lines at.left at.lent steady.good
               turns.keeps turns.stays by.did turns.under_way made);
           logs = subst
-              (λ (n : Needs). KeepsLogsWithin n.records l.grants new.grants trial.slot)
-              (sym (needs_same trial.refused machine at)) by.logs;
+              (λ (n : Needs). KeepsLogsWithin n.records l.grants new.grants attempt.slot)
+              (sym (needs_same attempt.refused machine at)) by.logs;
         }
 
     pub steps_undefined : (turned : Turned)
-        → Turns nothing_more (operator_error operator Undefined) trial (Ok turned) l new
-        → Steps asks trial (Ok (tt {0})) (held l (Calling operator) lines)
+        → Turns nothing_more (operator_error operator Undefined) attempt (Ok turned) l new
+        → Steps asks attempt (Ok (tt {0})) (held l (Calling operator) lines)
         (held new (course_after turned new.frames) (lines_after turned lines))
     steps_undefined turned turns = record {
       meets = undefined_made turned turns;
@@ -119,29 +119,29 @@ module _ (asks : Status → Around → Scene → Asked) (l : Lent) (operator : O
 
     -- or waits
     undefined_unmade : (reason : Reason)
-        → Turns nothing_more (operator_error operator Undefined) trial (Err reason) l new
+        → Turns nothing_more (operator_error operator Undefined) attempt (Err reason) l new
         → (machine : Machine) → (at : IsCalling l operator lines machine)
-        → StepsFrom (alone_needs asks l.program trial.refused machine)
-        (alone_step l.program trial.refused machine) trial (Err reason) machine
+        → StepsFrom (alone_needs asks l.program attempt.refused machine)
+        (alone_step l.program attempt.refused machine) attempt (Err reason) machine
         (held l (Calling operator) lines) (held new (Calling operator) lines)
     undefined_unmade reason turns machine at =
         let by = turns.meets at.left.store at.lent.shown in
-        let needs : Needs = alone_needs asks l.program trial.refused machine in
-        let why : IsReason needs trial.slot l new reason =
-        reason_more _ needs (needs_more trial.refused machine at) trial.slot l new reason
+        let needs : Needs = alone_needs asks l.program attempt.refused machine in
+        let why : IsReason needs attempt.slot l new reason =
+        reason_more _ needs (needs_more attempt.refused machine at) attempt.slot l new reason
         by.did.0 in
         record {
           did = (
             at_same l new (Calling operator) lines machine by.did.1 at,
             why,
-            held_up needs trial.slot l new reason by.did.1 turns.logs.closed why,
+            held_up needs attempt.slot l new reason by.did.1 turns.logs.closed why,
           );
           logs = by.logs;
         }
 
     pub steps_waiting : (reason : Reason)
-        → Turns nothing_more (operator_error operator Undefined) trial (Err reason) l new
-        → Steps asks trial (Err reason) (held l (Calling operator) lines)
+        → Turns nothing_more (operator_error operator Undefined) attempt (Err reason) l new
+        → Steps asks attempt (Err reason) (held l (Calling operator) lines)
         (held new (Calling operator) lines)
     steps_waiting reason turns = record {
       meets = undefined_unmade reason turns;

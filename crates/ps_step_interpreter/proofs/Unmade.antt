@@ -10,8 +10,8 @@ use Rattle.ps_ops_control.specs.Turns.{cause_of}
 use Rattle.ps_ops_state.specs.declared.lent.Scratch.{Scratch}
 use Rattle.ps_ops_state.specs.Acts.{Needs, IsReason, IsSame, LacksRooms}
 use Rattle.ps_ops_state.specs.Lent.{Lent, Rooms}
-use Rattle.ps_step_interpreter.specs.declared.courses.Course.{Course}
-use Rattle.ps_step_interpreter.specs.declared.courses.Course.TheVariants.{Running, Unwinding, Calling, Finished}
+use Rattle.ps_step_interpreter.specs.declared.courses.AloneCourse.{AloneCourse}
+use Rattle.ps_step_interpreter.specs.declared.courses.AloneCourse.TheVariants.{Running, Unwinding, Calling, Finished}
 use Rattle.ps_step_interpreter.specs.Courses.{IsLentBy, IsAtBy}
 use Rattle.ps_step_interpreter.specs.Needs.{wants, wants_rooms, IsHeldUp}
 
@@ -37,7 +37,7 @@ module _ (l : Lent) (grants : Grants) (room : ℕ) (scratch : Scratch) where
     error_lines = lent.error_lines;
   }
 
-  at_regranted : (course : Course) (lines : ℕ) (machine : Machine) → IsAtBy course l lines machine
+  at_regranted : (course : AloneCourse) (lines : ℕ) (machine : Machine) → IsAtBy course l lines machine
       → IsAtBy course regranted lines machine
   at_regranted Running lines machine at = lent_same running lines machine at
   at_regranted (Unwinding cause) lines machine at =
@@ -50,7 +50,7 @@ module _ (l : Lent) (grants : Grants) (room : ℕ) (scratch : Scratch) where
   }
   at_regranted Finished lines machine at = lent_same finished lines machine at
 
-pub at_same : (old new : Lent) (course : Course) (lines : ℕ) (machine : Machine) → IsSame old new
+pub at_same : (old new : Lent) (course : AloneCourse) (lines : ℕ) (machine : Machine) → IsSame old new
     → IsAtBy course old lines machine → IsAtBy course new lines machine
 at_same old new course lines machine same at =
     subst (λ (l : Lent). IsAtBy course l lines machine) (sym same)

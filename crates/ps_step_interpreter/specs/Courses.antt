@@ -12,33 +12,33 @@ use Rattle.ps_ops_state.specs.Lent.{Lent, scene_of, IsShown, IsGood}
 use Rattle.ps_step_outcome.specs.declared.turned.Turned.{Turned}
 use Rattle.ps_step_outcome.specs.declared.turned.Turned.TheVariants.{Goes, Calls, Breaks, Ends}
 use Rattle.ps_step_outcome.specs.Turns.{calling_of}
-use Rattle.ps_step_interpreter.specs.declared.courses.Course.{Course}
-use Rattle.ps_step_interpreter.specs.declared.courses.Course.TheVariants.{Running, Unwinding, Calling}
-use Rattle.ps_step_interpreter.specs.declared.courses.Course.TheVariants.{Finished}
+use Rattle.ps_step_interpreter.specs.declared.courses.AloneCourse.{AloneCourse}
+use Rattle.ps_step_interpreter.specs.declared.courses.AloneCourse.TheVariants.{Running, Unwinding, Calling}
+use Rattle.ps_step_interpreter.specs.declared.courses.AloneCourse.TheVariants.{Finished}
 
 -- what is lent, how far the context is, and how many lines of errors were printed
 pub record Held : Type 0 where
   pub lent : Lent
-  pub course : Course
+  pub course : AloneCourse
   pub error_lines : ℕ
 
-abbrev pub held : Lent → Course → ℕ → Held
+abbrev pub held : Lent → AloneCourse → ℕ → Held
 held l course lines = record { lent = l; course = course; error_lines = lines }
 
 -- ---- how far it is
 
 -- whether there is another step
-abbrev pub has_steps : Course → Bool
+abbrev pub has_steps : AloneCourse → Bool
 has_steps Finished = false
 has_steps course = true
 
 -- of a context that runs, or is unwinding for a cause
-abbrev pub course_in : (unwinding : Option Cause) → Course
+abbrev pub course_in : (unwinding : Option Cause) → AloneCourse
 course_in None = Running
 course_in (Some cause) = Unwinding cause
 
 -- after a turn that left these frames
-abbrev pub course_after : Turned → List Frame → Course
+abbrev pub course_after : Turned → List Frame → AloneCourse
 course_after Goes [] = Finished
 course_after Goes (frame ∷ frames) = Running
 course_after (Calls operator) frames = Calling operator
@@ -70,7 +70,7 @@ pub record IsCalling (l : Lent) (operator : Operator) (lines : ℕ) (machine : M
       → own_step l.program refused machine ≡ leaves_to_world (calling_of operator) left
 
 -- by how far it is
-abbrev pub IsAtBy : Course → Lent → (lines : ℕ) → Machine → Type 0
+abbrev pub IsAtBy : AloneCourse → Lent → (lines : ℕ) → Machine → Type 0
 IsAtBy Running l lines machine = IsLentBy l running lines machine
 IsAtBy (Unwinding cause) l lines machine = IsLentBy l (unwinding (cause_of cause)) lines machine
 IsAtBy (Calling operator) l lines machine = IsCalling l operator lines machine
@@ -82,7 +82,7 @@ IsAt h machine = IsAtBy h.course h.lent h.error_lines machine
 -- ---- what holds of it in every memory
 
 -- what runs or is unwinding has a frame
-abbrev pub HasFrame : Course → List Frame → Type 0
+abbrev pub HasFrame : AloneCourse → List Frame → Type 0
 HasFrame Running [] = ⊥
 HasFrame (Unwinding cause) [] = ⊥
 HasFrame course frames = Unit {0}

@@ -5,7 +5,7 @@ use ps_ops_control::frames::Cause;
 
 /// How far a context is.
 #[derive(Clone, Copy, Debug, PartialEq, Eq)]
-pub enum Course {
+pub enum AloneCourse {
     Running,
     /// Frames are taken off, for a cause.
     Unwinding(Cause),

@@ -4,7 +4,7 @@ ghost use Rattle.std.specs.Prelude.{◌≡◌, ◌≢◌, ◌<◌, ◌≤◌, []
 ghost use Rattle.ps_language.specs.Effect.{Around, Scene};
 ghost use Rattle.ps_language.specs.World.{Status};
 ghost use Rattle.ps_ops_state.specs.Acts.{Asked, AreFew};
-ghost use Rattle.ps_ops_state.specs.Lent.{lent, IsGood};
+ghost use Rattle.ps_ops_state.specs.Lent.{lent_of, IsGood};
 ghost use Rattle.ps_step_outcome.specs.Turns.{Turns};
 ghost use Rattle.ps_step_interpreter.specs.Interprets.{asks_in, own_turn};
 ghost use Rattle.ps_step_interpreter.specs.Makes.{Runs};
@@ -12,7 +12,7 @@ ghost use Rattle.ps_step_interpreter.specs.Makes.{Runs};
 use ps_mem::{Memory, Slot};
 use ps_ops_control::frames::Cause;
 use ps_ops_operands::failure::NotMade;
-use ps_ops_state::lent::{Context, Shared, Trial};
+use ps_ops_state::lent::{Attempt, Context, Runtime};
 use ps_step_outcome::turned::Turned;
 
 /// Steps that were made, and what the turn behind them came to.
@@ -38,16 +38,14 @@ pub trait Interpret {
         &mut self,
         unwinding: Option<Cause>,
         context: &mut Context,
-        shared: &mut Shared,
-        memory: &mut M,
-        trial: Trial,
+        runtime: &mut Runtime<M>,
+        attempt: Attempt,
     ) -> Result<Turned, NotMade>
-        requires good { IsGood
-            (lent (M.heap memory.old) (M.grants memory.old) context.old shared.old) }
+        requires good { IsGood (lent_of M.heap M.grants context.old runtime.old) }
         requires framed { context.old.frames ≢ [] }
-        ensures { Turns (asks_in asks unwinding) (own_turn unwinding) trial result
-            (lent (M.heap memory.old) (M.grants memory.old) context.old shared.old)
-            (lent (M.heap memory.new) (M.grants memory.new) context.new shared.new) };
+        ensures { Turns (asks_in asks unwinding) (own_turn unwinding) attempt result
+            (lent_of M.heap M.grants context.old runtime.old)
+            (lent_of M.heap M.grants context.new runtime.new) };
 
     /// Makes ordinary steps of a running context one after another, at most so many, as long as it
     /// goes on and has a frame. The records go into the log of a slot. None of those that are made
@@ -57,17 +55,15 @@ pub trait Interpret {
         most: u32,
         slot: Slot,
         context: &mut Context,
-        shared: &mut Shared,
-        memory: &mut M,
+        runtime: &mut Runtime<M>,
     ) -> Run
-        requires good { IsGood
-            (lent (M.heap memory.old) (M.grants memory.old) context.old shared.old) }
+        requires good { IsGood (lent_of M.heap M.grants context.old runtime.old) }
         ensures within { result.made ≤ most }
         ensures fewer { IsSome result.next → result.made < most }
         ensures ended { IsNone result.next → result.made < most → context.new.frames ≡ [] }
         ensures runs { Runs asks slot result.made result.next
-            (lent (M.heap memory.old) (M.grants memory.old) context.old shared.old)
-            (lent (M.heap memory.new) (M.grants memory.new) context.new shared.new) };
+            (lent_of M.heap M.grants context.old runtime.old)
+            (lent_of M.heap M.grants context.new runtime.new) };
 
     /// Every step leaves a record to the end of its context.
     ghost few: { AreFew asks };

@@ -8,11 +8,10 @@
 //! - A context by itself has definitions of its own, in which an operator of the world raises
 //!   `undefined` (`alone_laws`). The program doesn't rest on them; rows in a bounded memory do.
 //! - There an operator whose `undefined` can't be noted yet waits, since its element is taken
-//!   already (`Course::Calling`). Its next step is the note.
+//!   already (`AloneCourse::Calling`). Its next step is the note.
 #![tactic(auto)]
 
 pub mod courses;
 pub mod interpreter;
 pub mod interprets;
-pub mod turns;
 pub mod worlds;

@@ -24,7 +24,7 @@ use Rattle.ps_ops_operands.specs.Changes.{values_in}
 use Rattle.ps_ops_state.specs.declared.breaks.Break.{Break}
 use Rattle.ps_ops_state.specs.declared.breaks.Break.TheVariants.{Unwinds, Raises, NotMade}
 use Rattle.ps_ops_control.specs.declared.frames.Cause.{Cause}
-use Rattle.ps_ops_state.specs.declared.lent.Trial.{Trial}
+use Rattle.ps_ops_state.specs.declared.lent.Attempt.{Attempt}
 use Rattle.ps_ops_state.specs.Lent.{Lent, scene_of, IsShown, IsGood}
 use Rattle.ps_ops_state.specs.Acts.{nothing_asked, effect_in, Acts}
 use Rattle.ps_ops_state.proofs.Acting.{raised_acts, wanting_acts}
@@ -124,7 +124,7 @@ names_more names TooLong = sym (append-nil names)
 
 -- ---- an operator that forms the name of a key and leaves other operands
 
-module _ (row : Row) (l : Lent) (good : IsGood l) (trial : Trial) (k : Word) (key : Key)
+module _ (row : Row) (l : Lent) (good : IsGood l) (attempt : Attempt) (k : Word) (key : Key)
     (are : IsKeyOf l.heap l.names k key)
     (inside : (store : Store) → IsShown l store → IsWithin (birth_at l.heap) l.names store k)
     (operands : List Word) (output : Store → List Value)
@@ -158,31 +158,31 @@ module _ (row : Row) (l : Lent) (good : IsGood l) (trial : Trial) (k : Word) (ke
   -- where its name might be formed
   wants_name : (other : Key) → key ≡ other → (reason : Reason)
       → IsForming l.names other (Err (NotMade reason))
-      → Acts nothing_asked row trial (Err (NotMade reason)) l l
+      → Acts nothing_asked row attempt (Err (NotMade reason)) l l
   wants_name (Met w) is reason done = absurd done
   wants_name TooLong is reason done = absurd done
   wants_name (Unmet text) is reason done =
       let few = done.1 in
       let may : IsForming l.names key (Ok tt) = rw is few in
-      subst (λ (r : Reason). Acts nothing_asked row trial (Err (NotMade r)) l l) (sym done.0)
-      (wanting_acts row trial nothing_asked l good l.grants l.room l.scratch (omega arith)
-      (at_least-same _) good.empty (logs-same 0 l.grants trial.slot) Memory
+      subst (λ (r : Reason). Acts nothing_asked row attempt (Err (NotMade r)) l l) (sym done.0)
+      (wanting_acts row attempt nothing_asked l good l.grants l.room l.scratch (omega arith)
+      (at_least-same _) good.empty (logs-same 0 l.grants attempt.slot) Memory
       λ store shown. record {
         scene = record (scene_of l store)
             { operands = output store; names = names_with l.names key };
         output = [];
         is = effect_formed may store shown;
-        enough = lacks_for_same trial.refused store;
+        enough = lacks_for_same attempt.refused store;
         why = inr (inl (rw is (let size = length-append l.names (text.items ∷ []) in
             omega (arith, size))));
       })
 
   pub fault_acts : (break : Break) → IsForming l.names key (Err break)
       → (names : List (List ℕ)) → names ≡ l.names
-      → Acts nothing_asked row trial (Err break) l (record l { names = names })
+      → Acts nothing_asked row attempt (Err break) l (record l { names = names })
   fault_acts break done names same =
       subst (λ (ns : List (List ℕ)).
-      Acts nothing_asked row trial (Err break) l (record l { names = ns })) (sym same)
+      Acts nothing_asked row attempt (Err break) l (record l { names = ns })) (sym same)
       (by break done)
     where
       unwound : (other : Key) → (cause : Cause) → IsForming l.names other (Err (Unwinds cause))
@@ -192,8 +192,8 @@ module _ (row : Row) (l : Lent) (good : IsGood l) (trial : Trial) (k : Word) (ke
       unwound TooLong cause it = it
 
       by : (break : Break) → IsForming l.names key (Err break)
-          → Acts nothing_asked row trial (Err break) l l
-      by (Raises error) it = raised_acts row trial nothing_asked l good error
+          → Acts nothing_asked row attempt (Err break) l l
+      by (Raises error) it = raised_acts row attempt nothing_asked l good error
           (effect_unformed error it)
       by (NotMade reason) it = wants_name key refl reason it
       by (Unwinds cause) it = absurd (unwound key cause it)
@@ -231,12 +231,12 @@ module _ (row : Row) (l : Lent) (good : IsGood l) (trial : Trial) (k : Word) (ke
         ∙ ap (λ (scene : Scene). quiet (record scene
         { operands = values_in l.heap names operands })) (sym left.is)))
 
-    pub formed_name_acts : Acts nothing_asked row trial (Ok tt) l
+    pub formed_name_acts : Acts nothing_asked row attempt (Ok tt) l
         (record l { operands = operands; names = names })
     formed_name_acts =
-        formed_acts l more names names_are row other nothing_asked nothing_asked trial effects
+        formed_acts l more names names_are row other nothing_asked nothing_asked attempt effects
         (λ store shown. refl) _
-        (stacked_acts other (record l { names = names }) operands l.dictionaries nothing_asked trial
+        (stacked_acts other (record l { names = names }) operands l.dictionaries nothing_asked attempt
         (formed_good l more names names_are good distinct) held good.dictionaries
         λ store shown. record {
           is = refl;

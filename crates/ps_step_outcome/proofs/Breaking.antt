@@ -18,7 +18,7 @@ use Rattle.ps_ops_control.specs.declared.frames.Frame.{Frame}
 use Rattle.ps_ops_control.specs.Frames.{frames_in}
 use Rattle.ps_dict.proofs.Changing.{with-lengths}
 use Rattle.ps_dict.proofs.Shapes.{there}
-use Rattle.ps_ops_state.specs.declared.lent.Trial.{Trial}
+use Rattle.ps_ops_state.specs.declared.lent.Attempt.{Attempt}
 use Rattle.ps_ops_state.specs.Lent.{Lent, scene_of, IsShown, IsGood}
 use Rattle.ps_ops_state.specs.Acts.{Needs, nothing_needed, IsReason}
 use Rattle.ps_ops_state.proofs.Meeting.{keeps-same, lasts-same, logs-same, logs_more, stays_as, at_least-same}
@@ -102,7 +102,7 @@ module _ (kept : Scene) (none : kept.frames ≡ []) (refused : Bool) (machine : 
 
 -- ---- what is lent
 
-module _ (trial : Trial) (l : Lent) (good : IsGood l) (last : l.frames ≡ []) where
+module _ (attempt : Attempt) (l : Lent) (good : IsGood l) (last : l.frames ≡ []) where
   abbrev birth : ℕ
   birth = birth_at l.heap l.error_dictionary
 
@@ -112,11 +112,11 @@ module _ (trial : Trial) (l : Lent) (good : IsGood l) (last : l.frames ≡ []) w
   untold_in : (cause : Cause)
       → ((s : Store) → IsShown l s → (machine : Machine)
       → machine.context.error_dictionary ≡ birth
-      → Ended (scene_of l s) (none s) trial.refused machine cause s machine.printed
+      → Ended (scene_of l s) (none s) attempt.refused machine cause s machine.printed
       machine.error_lines)
       → (s : Store) → IsShown l s
       → LeavesStore l good l.frames (here_good l good) l.heap l.grants l.scratch l.printed l.room
-      (keeps-same l.heap) nothing_more (break_turn cause) trial (Ends false) s
+      (keeps-same l.heap) nothing_more (break_turn cause) attempt (Ends false) s
   untold_in cause ends s shown = record {
     later = s;
     shows = shown.shows;
@@ -124,35 +124,35 @@ module _ (trial : Trial) (l : Lent) (good : IsGood l) (last : l.frames ≡ []) w
     leaves = tt;
     is = λ machine was address.
         ends s shown machine address
-        ∙ (λ i. reaches (settled (ended (scene_of l s) (none s) trial.refused machine s (was i)
+        ∙ (λ i. reaches (settled (ended (scene_of l s) (none s) attempt.refused machine s (was i)
         machine.error_lines)));
-    logs = logs-same _ l.grants trial.slot;
+    logs = logs-same _ l.grants attempt.slot;
   }
 
   untold_turns : (cause : Cause)
       → ((s : Store) → IsShown l s → (machine : Machine)
       → machine.context.error_dictionary ≡ birth
-      → Ended (scene_of l s) (none s) trial.refused machine cause s machine.printed
+      → Ended (scene_of l s) (none s) attempt.refused machine cause s machine.printed
       machine.error_lines)
-      → Turns nothing_more (break_turn cause) trial (Ok (Ends false)) l l
+      → Turns nothing_more (break_turn cause) attempt (Ok (Ends false)) l l
   untold_turns cause ends =
       stored_on l good l.frames (here_good l good) l.heap l.grants l.scratch l.printed l.room
       (keeps-same l.heap) good.sound good.empty (at_least-same _) (omega arith) nothing_more
-      (break_turn cause) trial (Ends false) tt (logs-same _ l.grants trial.slot)
+      (break_turn cause) attempt (Ends false) tt (logs-same _ l.grants attempt.slot)
       (untold_in cause ends)
 
-  pub quits_turns : Turns nothing_more (break_turn for_quit) trial (Ok (Ends false)) l l
+  pub quits_turns : Turns nothing_more (break_turn for_quit) attempt (Ok (Ends false)) l l
   quits_turns = untold_turns for_quit λ s shown machine address.
-      quits (scene_of l s) (none s) trial.refused machine
+      quits (scene_of l s) (none s) attempt.refused machine
 
-  pub exits_turns : Turns nothing_more (break_turn for_exit) trial (Ok (Ends false)) l l
+  pub exits_turns : Turns nothing_more (break_turn for_exit) attempt (Ok (Ends false)) l l
   exits_turns = untold_turns for_exit λ s shown machine address.
-      exits (scene_of l s) (none s) trial.refused machine
+      exits (scene_of l s) (none s) attempt.refused machine
 
   pub stops_turns : ((s : Store) → IsShown l s → has_new_error (dictionary_at s birth) ≡ false)
-      → Turns nothing_more (break_turn for_stop) trial (Ok (Ends false)) l l
+      → Turns nothing_more (break_turn for_stop) attempt (Ok (Ends false)) l l
   stops_turns old = untold_turns for_stop λ s shown machine address.
-      stops_untold (scene_of l s) (none s) trial.refused machine birth address (old s shown)
+      stops_untold (scene_of l s) (none s) attempt.refused machine birth address (old s shown)
 
   -- ---- where the error is new
 
@@ -177,17 +177,17 @@ module _ (trial : Trial) (l : Lent) (good : IsGood l) (last : l.frames ≡ []) w
 
     pub told_turns : (heap : Heap) (grants : Grants) (printed : List ℕ) (room : ℕ)
         → Keeps l.heap heap → IsSound heap → length l.printed + l.room ≤ length printed + room
-        → KeepsLogsWithin 1 l.grants grants trial.slot
+        → KeepsLogsWithin 1 l.grants grants attempt.slot
         → ((s : Store) → IsShown l s
         → printed ≡ l.printed ++ error_line s (dictionary_at s birth))
         → ((s : Store) → IsShown l s → Shows heap l.names
         (with_dictionary s birth (told (dictionary_at s birth))))
-        → Turns nothing_more (break_turn for_stop) trial (Ok (Ends true)) l
+        → Turns nothing_more (break_turn for_stop) attempt (Ok (Ends true)) l
         (record l { heap = heap; grants = grants; printed = printed; room = room })
     told_turns heap grants printed room keeps sound capacity logs lined shows =
         stored_on l good l.frames (here_good l good) heap grants l.scratch printed room keeps sound
-        good.empty (at_least-same _) capacity nothing_more (break_turn for_stop) trial (Ends true)
-        tt (logs_more 1 most_records l.grants grants trial.slot (omega arith) logs) λ s shown.
+        good.empty (at_least-same _) capacity nothing_more (break_turn for_stop) attempt (Ends true)
+        tt (logs_more 1 most_records l.grants grants attempt.slot (omega arith) logs) λ s shown.
         record {
           later = with_dictionary s birth (told (dictionary_at s birth));
           shows = shows s shown;
@@ -196,35 +196,35 @@ module _ (trial : Trial) (l : Lent) (good : IsGood l) (last : l.frames ≡ []) w
               shown.shows);
           leaves = tt;
           is = λ machine was address.
-              stops_told (scene_of l s) (none s) trial.refused machine birth address (new s shown)
-              ∙ (λ i. reaches (settled (ended (scene_of l s) (none s) trial.refused machine
+              stops_told (scene_of l s) (none s) attempt.refused machine birth address (new s shown)
+              ∙ (λ i. reaches (settled (ended (scene_of l s) (none s) attempt.refused machine
               (with_dictionary s birth (told (dictionary_at s birth)))
               (((λ j. was j ++ error_line s (dictionary_at s birth)) ∙ sym (lined s shown)) i)
               (machine.error_lines + 1))));
-          logs = subst (λ (n : Needs). KeepsLogsWithin n.records l.grants grants trial.slot)
+          logs = subst (λ (n : Needs). KeepsLogsWithin n.records l.grants grants attempt.slot)
               (sym (needs_as s shown)) logs;
         }
 
     pub unlogged : (grants : Grants) (s : Store) (reason : Reason)
-        → IsUnlogged 1 trial.slot l.grants grants reason
-        → IsReason (asked s) trial.slot l (record l { grants = grants }) reason
+        → IsUnlogged 1 attempt.slot l.grants grants reason
+        → IsReason (asked s) attempt.slot l (record l { grants = grants }) reason
     unlogged grants s reason why =
-        unlogged_reason trial.slot 1 (omega arith) l (record l { grants = grants }) reason why
+        unlogged_reason attempt.slot 1 (omega arith) l (record l { grants = grants }) reason why
         (asked s) (omega arith)
 
     -- it is not made
     pub untold_reason : (grants : Grants) (room : ℕ) (reason : Reason)
         → ((s : Store) → IsShown l s
-        → IsReason (asked s) trial.slot l (record l { grants = grants; room = room }) reason)
-        → l.room ≤ room → KeepsLogsWithin 0 l.grants grants trial.slot
-        → Turns nothing_more (break_turn for_stop) trial (Err reason) l
+        → IsReason (asked s) attempt.slot l (record l { grants = grants; room = room }) reason)
+        → l.room ≤ room → KeepsLogsWithin 0 l.grants grants attempt.slot
+        → Turns nothing_more (break_turn for_stop) attempt (Err reason) l
         (record l { grants = grants; room = room })
     untold_reason grants room reason why more logs =
         let left : Lent = record l { grants = grants; room = room } in
         record {
           meets = λ s shown. record {
             did = (
-              subst (λ (n : Needs). IsReason n trial.slot l left reason)
+              subst (λ (n : Needs). IsReason n attempt.slot l left reason)
                   (sym (needs_as s shown)) (why s shown),
               refl,
             );

@@ -13,7 +13,7 @@ use Rattle.ps_ops_operands.specs.declared.failure.NotMade.{NotMade as Reason}
 use Rattle.ps_ops_operands.specs.Changes.{KeepsLogsWithin}
 use Rattle.ps_ops_control.specs.declared.frames.Frame.{Frame}
 use Rattle.ps_ops_control.specs.Frames.{AreFrames, AreFramesWithin}
-use Rattle.ps_ops_state.specs.declared.lent.Trial.{Trial}
+use Rattle.ps_ops_state.specs.declared.lent.Attempt.{Attempt}
 use Rattle.ps_ops_state.specs.Lent.{Lent, scene_of, IsShown, IsGood}
 use Rattle.ps_ops_state.specs.Acts.{Asked, Needs, Stays}
 use Rattle.ps_ops_state.proofs.Meeting.{keeps-same, lasts-same, logs-same, stays_as, at_least-same}
@@ -25,21 +25,21 @@ use Rattle.ps_step_outcome.specs.Turns.{IsShownWith, IsTurned, TurnsBy, TurnsOve
 
 -- over fewer stores
 pub turns_over : (stores others : Lent → Store → Type 0) (asks other_asks : Lent → Store → Asked)
-    (turn other : Lent → Store → Turn) (trial : Trial) (result : Result Turned Reason)
+    (turn other : Lent → Store → Turn) (attempt : Attempt) (result : Result Turned Reason)
     (old new : Lent)
     → ((s : Store) → others old s → stores old s)
     → ((s : Store) → others old s → turn old s ≡ other old s)
     → ((s : Store) → others old s → asks old s ≡ other_asks old s)
-    → TurnsOver stores asks turn trial result old new
-    → TurnsOver others other_asks other trial result old new
-turns_over stores others asks other_asks turn other trial result old new fewer same asked turns =
+    → TurnsOver stores asks turn attempt result old new
+    → TurnsOver others other_asks other attempt result old new
+turns_over stores others asks other_asks turn other attempt result old new fewer same asked turns =
     record {
       meets = λ s held. subst (λ (t : Turn). TurnsBy
-          (turn_needs trial.refused (other_asks old s) (birth_at old.heap old.error_dictionary)
-          (scene_of old s) t) trial result t s old new) (same s held)
+          (turn_needs attempt.refused (other_asks old s) (birth_at old.heap old.error_dictionary)
+          (scene_of old s) t) attempt result t s old new) (same s held)
           (subst (λ (a : Asked). TurnsBy
-          (turn_needs trial.refused a (birth_at old.heap old.error_dictionary) (scene_of old s)
-          (turn old s)) trial result (turn old s) s old new) (asked s held)
+          (turn_needs attempt.refused a (birth_at old.heap old.error_dictionary) (scene_of old s)
+          (turn old s)) attempt result (turn old s) s old new) (asked s held)
           (turns.meets s (fewer s held)));
       good = turns.good;
       keeps = turns.keeps;
@@ -50,22 +50,22 @@ turns_over stores others asks other_asks turn other trial result old new fewer s
     }
 
 pub turns_as : (asks other_asks : Lent → Store → Asked) (turn other : Lent → Store → Turn)
-    (trial : Trial) (result : Result Turned Reason) (old new : Lent)
+    (attempt : Attempt) (result : Result Turned Reason) (old new : Lent)
     → ((s : Store) → IsShown old s → turn old s ≡ other old s)
     → ((s : Store) → IsShown old s → asks old s ≡ other_asks old s)
-    → Turns asks turn trial result old new → Turns other_asks other trial result old new
-turns_as asks other_asks turn other trial result old new same asked turns =
-    turns_over IsShown IsShown asks other_asks turn other trial result old new
+    → Turns asks turn attempt result old new → Turns other_asks other attempt result old new
+turns_as asks other_asks turn other attempt result old new same asked turns =
+    turns_over IsShown IsShown asks other_asks turn other attempt result old new
     (λ s shown. shown) same asked turns
 
 -- what is in hand is within each store that is shown
 pub turns_shown : (words : List Word) (frames : List Frame) (asks : Lent → Store → Asked)
-    (turn : Lent → Store → Turn) (trial : Trial) (result : Result Turned Reason) (old new : Lent)
+    (turn : Lent → Store → Turn) (attempt : Attempt) (result : Result Turned Reason) (old new : Lent)
     → ((s : Store) → IsShown old s → AreWithin old.heap old.names s words)
     → ((s : Store) → IsShown old s → AreFramesWithin old.heap old.names s frames)
-    → TurnsWith words frames asks turn trial result old new → Turns asks turn trial result old new
-turns_shown words frames asks turn trial result old new words_within frames_within turns =
-    turns_over (IsShownWith words frames) IsShown asks asks turn turn trial result old new
+    → TurnsWith words frames asks turn attempt result old new → Turns asks turn attempt result old new
+turns_shown words frames asks turn attempt result old new words_within frames_within turns =
+    turns_over (IsShownWith words frames) IsShown asks asks turn turn attempt result old new
     (λ s shown. record {
       shown = shown;
       words_within = words_within s shown;
@@ -112,11 +112,11 @@ module _ (l : Lent) (operands : List Word) (frames : List Frame) where
   -- ---- a turn that leaves them
 
   module _ (stores : Lent → Store → Type 0) (asks : Lent → Store → Asked)
-      (turn : Lent → Store → Turn) (trial : Trial)
+      (turn : Lent → Store → Turn) (attempt : Attempt)
       (shows : (s : Store) → stores l s → IsShown restacked s)
       (leaves : (s : Store) → stores l s → turn l s ≡ leads (scene_of restacked s)) where
     led : (s : Store) → IsShown restacked s
-        → IsTurned trial.refused (leads (scene_of restacked s)) Goes s l restacked
+        → IsTurned attempt.refused (leads (scene_of restacked s)) Goes s l restacked
     led s shown = record {
       after = s;
       shown = shown;
@@ -127,26 +127,26 @@ module _ (l : Lent) (operands : List Word) (frames : List Frame) where
           { printed = (append-nil machine.printed ∙ was) i })));
     }
 
-    pub goes_over : IsGood restacked → TurnsOver stores asks turn trial (Ok Goes) l restacked
+    pub goes_over : IsGood restacked → TurnsOver stores asks turn attempt (Ok Goes) l restacked
     goes_over good = record {
       meets = λ s held. record {
-        did = subst (λ (t : Turn). IsTurned trial.refused t Goes s l restacked)
+        did = subst (λ (t : Turn). IsTurned attempt.refused t Goes s l restacked)
             (sym (leaves s held)) (led s (shows s held));
-        logs = logs-same _ l.grants trial.slot;
+        logs = logs-same _ l.grants attempt.slot;
       };
       good = good;
       keeps = keeps-same l.heap;
       stays = stays_as l restacked refl refl refl refl (omega arith) (at_least-same _);
-      logs = logs-same _ l.grants trial.slot;
+      logs = logs-same _ l.grants attempt.slot;
       framed = tt;
       under_way = tt;
     }
 
-  pub goes_on : (asks : Lent → Store → Asked) (turn : Lent → Store → Turn) (trial : Trial)
+  pub goes_on : (asks : Lent → Store → Asked) (turn : Lent → Store → Turn) (attempt : Attempt)
       → AreGood → ((s : Store) → IsShown l s → turn l s ≡ leads (scene_of restacked s))
-      → IsGood l → Turns asks turn trial (Ok Goes) l restacked
-  goes_on asks turn trial are leaves good =
-      goes_over IsShown asks turn trial (restacked_shown are) leaves (restacked_good are good)
+      → IsGood l → Turns asks turn attempt (Ok Goes) l restacked
+  goes_on asks turn attempt are leaves good =
+      goes_over IsShown asks turn attempt (restacked_shown are) leaves (restacked_good are good)
 
   -- ---- a turn over them
 
@@ -160,16 +160,16 @@ module _ (l : Lent) (operands : List Word) (frames : List Frame) where
   needs_same refused asked birth s (leaves_to calling kept) = refl
 
   module _ (asks over_asks : Lent → Store → Asked) (turn over : Lent → Store → Turn)
-      (trial : Trial) (stores : Lent → Store → Type 0)
+      (attempt : Attempt) (stores : Lent → Store → Type 0)
       (shows : (s : Store) → IsShown l s → stores restacked s)
       (same : (s : Store) → IsShown l s → over restacked s ≡ turn l s)
       (asked : (s : Store) → IsShown l s → over_asks restacked s ≡ asks l s) where
     same_needs : (s : Store) → IsShown l s
-        → needs_in trial over_asks over restacked s ≡ needs_in trial asks turn l s
+        → needs_in attempt over_asks over restacked s ≡ needs_in attempt asks turn l s
     same_needs s shown =
-        needs_same trial.refused (over_asks restacked s) (birth_at l.heap l.error_dictionary) s
+        needs_same attempt.refused (over_asks restacked s) (birth_at l.heap l.error_dictionary) s
         (over restacked s)
-        ∙ (λ i. turn_needs trial.refused (asked s shown i) (birth_at l.heap l.error_dictionary)
+        ∙ (λ i. turn_needs attempt.refused (asked s shown i) (birth_at l.heap l.error_dictionary)
         (scene_of l s) (same s shown i))
 
     stays_over : (new : Lent) → Stays restacked new → Stays l new
@@ -184,12 +184,12 @@ module _ (l : Lent) (operands : List Word) (frames : List Frame) where
     }
 
     pub composes : (turned : Turned) (new : Lent)
-        → TurnsOver stores over_asks over trial (Ok turned) restacked new
-        → Turns asks turn trial (Ok turned) l new
+        → TurnsOver stores over_asks over attempt (Ok turned) restacked new
+        → Turns asks turn attempt (Ok turned) l new
     composes turned new turns = record {
       meets = λ s shown.
           let by = turns.meets s (shows s shown) in
-          let did : IsTurned trial.refused (over restacked s) turned s l new = record {
+          let did : IsTurned attempt.refused (over restacked s) turned s l new = record {
             after = by.did.after;
             shown = by.did.shown;
             lasts = by.did.lasts;
@@ -197,8 +197,8 @@ module _ (l : Lent) (operands : List Word) (frames : List Frame) where
             is = by.did.is;
           } in
           record {
-            did = subst (λ (t : Turn). IsTurned trial.refused t turned s l new) (same s shown) did;
-            logs = subst (λ (n : Needs). KeepsLogsWithin n.records l.grants new.grants trial.slot)
+            did = subst (λ (t : Turn). IsTurned attempt.refused t turned s l new) (same s shown) did;
+            logs = subst (λ (n : Needs). KeepsLogsWithin n.records l.grants new.grants attempt.slot)
                 (same_needs s shown) by.logs;
           };
       good = turns.good;

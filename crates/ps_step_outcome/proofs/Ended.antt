@@ -22,7 +22,7 @@ use Rattle.ps_dict.specs.declared.entries.ErrorPlan.{ErrorPlan}
 use Rattle.ps_dict.specs.Entries.{with_entries}
 use Rattle.ps_dict.proofs.Changing.{with-lengths}
 use Rattle.ps_dict.proofs.Shapes.{there}
-use Rattle.ps_ops_state.specs.declared.lent.Trial.{Trial}
+use Rattle.ps_ops_state.specs.declared.lent.Attempt.{Attempt}
 use Rattle.ps_ops_state.specs.Lent.{Lent, scene_of, IsShown, IsGood}
 use Rattle.ps_ops_state.proofs.Meeting.{keeps-same, stays_as, at_least-same}
 use Rattle.ps_step_outcome.specs.declared.turned.Turned.{Turned}
@@ -35,7 +35,7 @@ use Rattle.ps_step_outcome.proofs.Ending.{after_end, asked_line, ends_by}
 use Rattle.ps_step_outcome.proofs.Composing.{here_good}
 use Rattle.ps_step_outcome.proofs.Storing.{LeavesStore, stored_over}
 
-module _ (error : ErrorName) (command : Word) (trial : Trial) (l : Lent) (good : IsGood l)
+module _ (error : ErrorName) (command : Word) (attempt : Attempt) (l : Lent) (good : IsGood l)
     (last : l.frames ≡ []) where
   abbrev birth : ℕ
   birth = birth_at l.heap l.error_dictionary
@@ -60,7 +60,7 @@ module _ (error : ErrorName) (command : Word) (trial : Trial) (l : Lent) (good :
 
   abbrev TurnsTo : Result Turned Reason → Lent → Type 0
   TurnsTo result new =
-      TurnsWith (command ∷ []) [] nothing_more (error_turn error command) trial result l new
+      TurnsWith (command ∷ []) [] nothing_more (error_turn error command) attempt result l new
 
   module _ (entries : ErrorPlan)
       (planned : (s : Store) → Held s → entries ≡ plan error value (dictionary_at s birth))
@@ -77,10 +77,10 @@ module _ (error : ErrorName) (command : Word) (trial : Trial) (l : Lent) (good :
           → printed ≡ l.printed ++ planned_line s entries name value)
           (shows : (s : Store) → Held s → Shows heap l.names (with_dictionary s birth
           (with_entries (entries_with false error value) (dictionary_at s birth))))
-          (logs : KeepsLogsWithin most_records l.grants grants trial.slot) where
+          (logs : KeepsLogsWithin most_records l.grants grants attempt.slot) where
         ends_in : (s : Store) → Held s
             → LeavesStore l good l.frames (here_good l good) heap grants l.scratch printed room keeps
-            nothing_more (error_turn error command) trial (Ends (newerror_stands entries)) s
+            nothing_more (error_turn error command) attempt (Ends (newerror_stands entries)) s
         ends_in s held =
             let at = standing s held.shown in
             record {
@@ -89,7 +89,7 @@ module _ (error : ErrorName) (command : Word) (trial : Trial) (l : Lent) (good :
               lasts = with-lengths s birth (dictionary_at s birth) _ at;
               leaves = tt;
               is = λ machine was address.
-                  ends_by error value (scene_of l s) birth (none s) at trial.refused machine address
+                  ends_by error value (scene_of l s) birth (none s) at attempt.refused machine address
                   ∙ (λ i. reaches (settled (record (with_scene (record (scene_of l s)
                   { store = after_end error value (scene_of l s) birth (none s) at })
                   finished machine) {
@@ -109,13 +109,13 @@ module _ (error : ErrorName) (command : Word) (trial : Trial) (l : Lent) (good :
             (record l { heap = heap; grants = grants; printed = printed; room = room })) (sym is)
             (stored_over l good l.frames (here_good l good) heap grants l.scratch printed room keeps
             sound good.empty (at_least-same _) capacity nothing_more (error_turn error command)
-            trial (Ends (newerror_stands entries)) tt logs (IsShownWith (command ∷ []) [])
+            attempt (Ends (newerror_stands entries)) tt logs (IsShownWith (command ∷ []) [])
             (λ s held. held.shown) ends_in)
 
       -- its line had no room
       pub not_ended : (grants : Grants) (room : ℕ)
           → ((s : Store) → Held s → l.room < length (planned_line s entries name value))
-          → l.room ≤ room → KeepsLogsWithin 0 l.grants grants trial.slot
+          → l.room ≤ room → KeepsLogsWithin 0 l.grants grants attempt.slot
           → TurnsTo (Err Memory)
           (record l { grants = grants; room = room })
       not_ended grants room lacks more logs =

@@ -16,7 +16,7 @@ use Rattle.ps_ops_operands.specs.declared.failure.NotMade.{NotMade as Reason}
 use Rattle.ps_ops_operands.specs.declared.failure.NotMade.TheVariants.{LogFull, LogClosed, NeedSpace, Memory}
 use Rattle.ps_ops_control.specs.declared.frames.Cause.TheVariants.{Stop}
 use Rattle.ps_ops_control.specs.declared.frames.Frame.{Frame}
-use Rattle.ps_ops_state.specs.declared.lent.Trial.{Trial}
+use Rattle.ps_ops_state.specs.declared.lent.Attempt.{Attempt}
 use Rattle.ps_ops_state.specs.Lent.{Lent, scene_of, IsShown, IsGood}
 use Rattle.ps_ops_state.specs.Acts.{Lasts, IsLeft, IsSame}
 use Rattle.ps_ops_state.proofs.Lifts.{error-kept}
@@ -78,21 +78,21 @@ some_frames : (frames : List Frame) → length frames ≢ 0 → IsUnderWay (Brea
 some_frames [] some = absurd (some refl)
 some_frames (frame ∷ frames) some = tt
 
-module _ (error : ErrorName) (command : Word) (trial : Trial) (l : Lent) (good : IsGood l)
+module _ (error : ErrorName) (command : Word) (attempt : Attempt) (l : Lent) (good : IsGood l)
     (heap : Heap) (grants : Grants) where
   abbrev NotesTo : Result Unit Reason → Type 0
   NotesTo result =
-      Notes error command trial.slot l.error_dictionary result l.heap heap l.grants grants
+      Notes error command attempt.slot l.error_dictionary result l.heap heap l.grants grants
 
   abbrev TurnsTo : Result Turned Reason → Lent → Type 0
   TurnsTo result new =
-      TurnsWith (command ∷ []) [] nothing_more (error_turn error command) trial result l new
+      TurnsWith (command ∷ []) [] nothing_more (error_turn error command) attempt result l new
 
   abbrev noted : Lent
   noted = record l { heap = heap; grants = grants }
 
   noted_turn : NotesTo (Ok tt) → (s : Store) (held : IsShownWith (command ∷ []) [] l s)
-      → IsTurned trial.refused (error_turn error command l s) (Breaks Stop) s l noted
+      → IsTurned attempt.refused (error_turn error command l s) (Breaks Stop) s l noted
   noted_turn notes s held =
       let note = notes.did.meets l.names s good.first good.names held.shown.shows
       held.words_within.0 in
@@ -128,7 +128,7 @@ module _ (error : ErrorName) (command : Word) (trial : Trial) (l : Lent) (good :
   same_noted kept = ap (λ (h : Heap). record l { heap = h; grants = grants }) kept
 
   not_raised_by : (reason : Reason) → NotesTo (Err reason)
-      → ((s : Store) → TurnsBy (needs_in trial nothing_more (error_turn error command) l s) trial
+      → ((s : Store) → TurnsBy (needs_in attempt nothing_more (error_turn error command) l s) attempt
       (Err reason) (error_turn error command l s) s l noted) → TurnsTo (Err reason) noted
   not_raised_by reason notes meets = record {
     meets = λ s held. meets s;

@@ -11,7 +11,7 @@ use Rattle.ps_mem.specs.Shows.{IsSound, Shows}
 use Rattle.ps_ops_operands.specs.Changes.{KeepsLogsWithin, most_records}
 use Rattle.ps_ops_control.specs.declared.frames.Frame.{Frame}
 use Rattle.ps_ops_state.specs.declared.lent.Scratch.{Scratch}
-use Rattle.ps_ops_state.specs.declared.lent.Trial.{Trial}
+use Rattle.ps_ops_state.specs.declared.lent.Attempt.{Attempt}
 use Rattle.ps_ops_state.specs.Lent.{Lent, rooms_of, IsEmpty, scene_of, IsShown, IsGood}
 use Rattle.ps_ops_state.specs.Acts.{Asked, IsAtLeast, Lasts}
 use Rattle.ps_ops_state.proofs.Meeting.{stays_as}
@@ -37,23 +37,23 @@ module _ (l : Lent) (good : IsGood l) (frames : List Frame) (are : AreGood l l.o
 
   -- what the turn leaves: those frames and this store, which is shown
   pub record LeavesStore (asks : Lent → Store → Asked) (turn : Lent → Store → Turn)
-      (trial : Trial) (turned : Turned) (s : Store) : Type 0 where
+      (attempt : Attempt) (turned : Turned) (s : Store) : Type 0 where
     pub later : Store
     pub is : (machine : Machine) → machine.printed ≡ l.printed
         → machine.context.error_dictionary ≡ birth_at l.heap l.error_dictionary
-        → after_turn trial.refused machine (turn l s) ≡ reached_by turned (record
+        → after_turn attempt.refused machine (turn l s) ≡ reached_by turned (record
         (with_scene (record (scene_of (restacked l l.operands frames) s) { store = later })
         (status_of turned) machine)
         { printed = printed; error_lines = lines_after turned machine.error_lines })
     pub shows : Shows heap l.names later
     pub lasts : Lasts s later
     pub leaves : LeavesHeap turned l.heap heap
-    pub logs : KeepsLogsWithin (needs_in trial asks turn l s).records l.grants grants trial.slot
+    pub logs : KeepsLogsWithin (needs_in attempt asks turn l s).records l.grants grants attempt.slot
 
-  left_turned : (asks : Lent → Store → Asked) (turn : Lent → Store → Turn) (trial : Trial)
-      (turned : Turned) (s : Store) → IsShown l s → LeavesStore asks turn trial turned s
-      → IsTurned trial.refused (turn l s) turned s l later_lent
-  left_turned asks turn trial turned s shown leaves =
+  left_turned : (asks : Lent → Store → Asked) (turn : Lent → Store → Turn) (attempt : Attempt)
+      (turned : Turned) (s : Store) → IsShown l s → LeavesStore asks turn attempt turned s
+      → IsTurned attempt.refused (turn l s) turned s l later_lent
+  left_turned asks turn attempt turned s shown leaves =
       let over : Lent = restacked l l.operands frames in
       let next = left_over over (restacked_good l l.operands frames are good) heap grants keeps s
       leaves.later (restacked_shown l l.operands frames are s shown) leaves.shows leaves.lasts in
@@ -77,20 +77,20 @@ module _ (l : Lent) (good : IsGood l) (frames : List Frame) (are : AreGood l l.o
   module _ (sound : IsSound heap) (empty : IsEmpty scratch)
       (least : IsAtLeast (rooms_of l.scratch) (rooms_of scratch))
       (capacity : length l.printed + l.room ≤ length printed + room)
-      (asks : Lent → Store → Asked) (turn : Lent → Store → Turn) (trial : Trial) (turned : Turned)
+      (asks : Lent → Store → Asked) (turn : Lent → Store → Turn) (attempt : Attempt) (turned : Turned)
       (under_way : IsUnderWay turned frames)
-      (logs : KeepsLogsWithin most_records l.grants grants trial.slot) where
+      (logs : KeepsLogsWithin most_records l.grants grants attempt.slot) where
     -- for some of the stores that are shown
     pub stored_over : (stores : Lent → Store → Type 0) → ((s : Store) → stores l s → IsShown l s)
-        → ((s : Store) → stores l s → LeavesStore asks turn trial turned s)
-        → TurnsOver stores asks turn trial (Ok turned) l later_lent
+        → ((s : Store) → stores l s → LeavesStore asks turn attempt turned s)
+        → TurnsOver stores asks turn attempt (Ok turned) l later_lent
     stored_over stores shows leaves =
         let over : Lent = restacked l l.operands frames in
         let well = good_over over (restacked_good l l.operands frames are good) heap grants keeps
         sound in
         record {
           meets = λ s held. record {
-            did = left_turned asks turn trial turned s (shows s held) (leaves s held);
+            did = left_turned asks turn attempt turned s (shows s held) (leaves s held);
             logs = (leaves s held).logs;
           };
           good = record {
@@ -111,8 +111,8 @@ module _ (l : Lent) (good : IsGood l) (frames : List Frame) (are : AreGood l l.o
         }
 
     -- for each
-    pub stored_on : ((s : Store) → IsShown l s → LeavesStore asks turn trial turned s)
-        → Turns asks turn trial (Ok turned) l later_lent
+    pub stored_on : ((s : Store) → IsShown l s → LeavesStore asks turn attempt turned s)
+        → Turns asks turn attempt (Ok turned) l later_lent
     stored_on = stored_over IsShown (λ s shown. shown)
 
 -- a turn that goes on and prints nothing

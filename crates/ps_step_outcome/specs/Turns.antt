@@ -31,7 +31,7 @@ use Rattle.ps_ops_operands.specs.FirstNames.{BeginWithFirst}
 use Rattle.ps_ops_control.specs.declared.frames.Frame.{Frame as FrameHere}
 use Rattle.ps_ops_control.specs.Frames.{AreFramesWithin}
 use Rattle.ps_ops_control.specs.Turns.{cause_of}
-use Rattle.ps_ops_state.specs.declared.lent.Trial.{Trial}
+use Rattle.ps_ops_state.specs.declared.lent.Attempt.{Attempt}
 use Rattle.ps_ops_state.specs.Lent.{Lent, Rooms, scene_of, IsShown, IsGood}
 use Rattle.ps_ops_state.specs.Acts.{Asked, Needs, nothing_needed, no_rooms, names_formed, needs_between}
 use Rattle.ps_ops_state.specs.Acts.{IsReason, Lasts, IsSame, Stays}
@@ -190,45 +190,46 @@ pub record IsTurned (refused : Bool) (turn : Turn) (turned : Turned) (before : S
       { printed = new.printed; error_lines = lines_after turned machine.error_lines })
 
 -- it is turned; or the step is not made, nothing has changed, and there is a reason
-abbrev pub TurnsAs : Needs → Trial → Result Turned Reason → Turn → (before : Store)
+abbrev pub TurnsAs : Needs → Attempt → Result Turned Reason → Turn → (before : Store)
     → (old new : Lent) → Type 0
-TurnsAs needs trial (Ok turned) turn before old new =
-    IsTurned trial.refused turn turned before old new
-TurnsAs needs trial (Err reason) turn before old new =
-    IsReason needs trial.slot old new reason × IsSame old new
+TurnsAs needs attempt (Ok turned) turn before old new =
+    IsTurned attempt.refused turn turned before old new
+TurnsAs needs attempt (Err reason) turn before old new =
+    IsReason needs attempt.slot old new reason × IsSame old new
 
 -- for a store that is shown, and by no more records than are asked for
-pub record TurnsBy (needs : Needs) (trial : Trial) (result : Result Turned Reason) (turn : Turn)
+pub record TurnsBy (needs : Needs) (attempt : Attempt) (result : Result Turned Reason) (turn : Turn)
     (before : Store) (old new : Lent) : Type 0 where
-  pub did : TurnsAs needs trial result turn before old new
-  pub logs : KeepsLogsWithin (spent result needs.records) old.grants new.grants trial.slot
+  pub did : TurnsAs needs attempt result turn before old new
+  pub logs : KeepsLogsWithin (spent result needs.records) old.grants new.grants attempt.slot
 
 -- what this turn of what is lent asks for over a store
-abbrev pub needs_in : Trial → (asks : Lent → Store → Asked) → (turn : Lent → Store → Turn) → Lent
+abbrev pub needs_in : Attempt → (asks : Lent → Store → Asked) → (turn : Lent → Store → Turn) → Lent
     → Store → Needs
-needs_in trial asks turn l store =
-    turn_needs trial.refused (asks l store) (birth_at l.heap l.error_dictionary) (scene_of l store)
+needs_in attempt asks turn l store =
+    turn_needs attempt.refused (asks l store) (birth_at l.heap l.error_dictionary)
+    (scene_of l store)
     (turn l store)
 
 -- For every one of these stores the turn came about, by what it asks for. What is lent stays good,
 -- what stood goes on standing, and the logs are kept
 pub record TurnsOver (stores : Lent → Store → Type 0) (asks : Lent → Store → Asked)
-    (turn : Lent → Store → Turn) (trial : Trial) (result : Result Turned Reason)
+    (turn : Lent → Store → Turn) (attempt : Attempt) (result : Result Turned Reason)
     (old new : Lent) : Type 0 where
   pub meets : (store : Store) → stores old store
-      → TurnsBy (needs_in trial asks turn old store) trial result (turn old store) store old new
+      → TurnsBy (needs_in attempt asks turn old store) attempt result (turn old store) store old new
   pub good : IsGood new
   pub keeps : Keeps old.heap new.heap
   pub stays : Stays old new
-  pub logs : KeepsLogsWithin (spent result most_records) old.grants new.grants trial.slot
+  pub logs : KeepsLogsWithin (spent result most_records) old.grants new.grants attempt.slot
   -- an element that was taken can be put back
   pub framed : OnErr result (new.frames ≡ old.frames)
   pub under_way : IfOk result (λ turned. IsUnderWay turned new.frames)
 
 -- for every store that the memory shows
-abbrev pub Turns : (asks : Lent → Store → Asked) → (turn : Lent → Store → Turn) → Trial
+abbrev pub Turns : (asks : Lent → Store → Asked) → (turn : Lent → Store → Turn) → Attempt
     → Result Turned Reason → (old new : Lent) → Type 0
-Turns asks turn trial result old new = TurnsOver IsShown asks turn trial result old new
+Turns asks turn attempt result old new = TurnsOver IsShown asks turn attempt result old new
 
 -- a store that is shown, with values and frames in hand that are within it as the stacks are
 pub record IsShownWith (words : List Word) (frames : List FrameHere) (l : Lent) (store : Store)
@@ -239,10 +240,10 @@ pub record IsShownWith (words : List Word) (frames : List FrameHere) (l : Lent) 
 
 -- for every store that is shown with them
 abbrev pub TurnsWith : (words : List Word) → (frames : List FrameHere)
-    → (asks : Lent → Store → Asked) → (turn : Lent → Store → Turn) → Trial
+    → (asks : Lent → Store → Asked) → (turn : Lent → Store → Turn) → Attempt
     → Result Turned Reason → (old new : Lent) → Type 0
-TurnsWith words frames asks turn trial result old new =
-    TurnsOver (IsShownWith words frames) asks turn trial result old new
+TurnsWith words frames asks turn attempt result old new =
+    TurnsOver (IsShownWith words frames) asks turn attempt result old new
 
 -- ---- what is asked for beside
 

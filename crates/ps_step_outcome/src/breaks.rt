@@ -13,7 +13,7 @@ ghost use Rattle.ps_mem.specs.References.{StandsAs};
 ghost use Rattle.ps_mem.specs.Shows.{IsSound, Shows};
 ghost use Rattle.ps_ops_operands.specs.FirstNames.{BeginWithFirst};
 ghost use Rattle.ps_text.specs.Printed.{Prints, StaysBounded};
-ghost use Rattle.ps_ops_state.specs.Lent.{lent, IsGood};
+ghost use Rattle.ps_ops_state.specs.Lent.{lent_of, IsGood};
 ghost use Rattle.ps_ops_control.specs.Turns.{cause_of};
 ghost use Rattle.ps_step_outcome.specs.Entries.{IsNamed};
 ghost use Rattle.ps_step_outcome.specs.Turns.{Turns, IsUnlogged, break_turn, nothing_more};
@@ -31,7 +31,7 @@ use ps_ops_control::readers::boolean_of;
 use ps_ops_operands::failure::NotMade;
 use ps_ops_operands::permits::permitted;
 use ps_ops_operands::plain;
-use ps_ops_state::lent::{Context, Shared, Trial};
+use ps_ops_state::lent::{Attempt, Context, Runtime};
 use ps_text::outputs::Output;
 use ps_word::words::Word;
 use std::alloc::AllocError;
@@ -120,37 +120,42 @@ pub fn permit_records<M: Memory>(memory: &mut M, slot: Slot, count: u32) -> Resu
 /// for the line. Nothing has changed then.
 fn end_by_stop<M: Memory>(
     context: &mut Context,
-    shared: &mut Shared,
-    memory: &mut M,
-    trial: Trial,
+    runtime: &mut Runtime<M>,
+    attempt: Attempt,
 ) -> Result<Turned, NotMade>
-    requires good { IsGood
-        (lent (M.heap memory.old) (M.grants memory.old) context.old shared.old) }
+    requires good { IsGood (lent_of M.heap M.grants context.old runtime.old) }
     requires last { context.old.frames ≡ [] }
-    ensures { Turns nothing_more (break_turn (cause_of Cause.Stop)) trial result
-        (lent (M.heap memory.old) (M.grants memory.old) context.old shared.old)
-        (lent (M.heap memory.new) (M.grants memory.new) context.new shared.new) }
+    ensures { Turns nothing_more (break_turn (cause_of Cause.Stop)) attempt result
+        (lent_of M.heap M.grants context.old runtime.old)
+        (lent_of M.heap M.grants context.new runtime.new) }
 {
     let address = context.error_dictionary;
     let keys = error_keys();
-    let Some(place) = position(memory, address, keys.newerror) else {
+    let Some(place) = position(&mut runtime.memory, address, keys.newerror) else {
         return Ok(Turned::Ends { told: false });
     };
-    if !has_new_error(memory, address, keys) {
+    if !has_new_error(&mut runtime.memory, address, keys) {
         return Ok(Turned::Ends { told: false });
     }
-    match permit_records(memory, trial.slot, 1) {
+    match permit_records(&mut runtime.memory, attempt.slot, 1) {
         Ok(()) => {}
         Err(reason) => return Err(reason),
     }
-    match print_line(memory, &shared.names, address, keys, &mut shared.printed) {
+    let shared = &mut runtime.shared;
+    match print_line(
+        &mut runtime.memory,
+        &shared.names,
+        address,
+        keys,
+        &mut shared.printed,
+    ) {
         Ok(()) => {}
         Err(AllocError) => return Err(NotMade::Memory),
     }
     let plan = PutPlan::Replace(place);
     put(
-        memory,
-        trial.slot,
+        &mut runtime.memory,
+        attempt.slot,
         address,
         plan,
         keys.newerror,
@@ -168,21 +173,19 @@ fn end_by_stop<M: Memory>(
 pub fn break_off<M: Memory>(
     cause: Cause,
     context: &mut Context,
-    shared: &mut Shared,
-    memory: &mut M,
-    trial: Trial,
+    runtime: &mut Runtime<M>,
+    attempt: Attempt,
 ) -> Result<Turned, NotMade>
-    requires good { IsGood
-        (lent (M.heap memory.old) (M.grants memory.old) context.old shared.old) }
-    ensures { Turns nothing_more (break_turn (cause_of cause)) trial result
-        (lent (M.heap memory.old) (M.grants memory.old) context.old shared.old)
-        (lent (M.heap memory.new) (M.grants memory.new) context.new shared.new) }
+    requires good { IsGood (lent_of M.heap M.grants context.old runtime.old) }
+    ensures { Turns nothing_more (break_turn (cause_of cause)) attempt result
+        (lent_of M.heap M.grants context.old runtime.old)
+        (lent_of M.heap M.grants context.new runtime.new) }
 {
     if context.frames.len() > 0 {
         return Ok(Turned::Breaks(cause));
     }
     match cause {
-        Cause::Stop => end_by_stop(context, shared, memory, trial),
+        Cause::Stop => end_by_stop(context, runtime, attempt),
         Cause::Exit => Ok(Turned::Ends { told: false }),
         Cause::Quit => Ok(Turned::Ends { told: false }),
     }

@@ -7,7 +7,7 @@ ghost use Rattle.ps_mem.specs.Meaning.{value_of};
 ghost use Rattle.ps_mem.specs.Shows.{IsValue, AreValues, IsSound, AreWithin, Shows, words_of_pairs};
 ghost use Rattle.ps_dict.specs.Entries.{entry_pairs};
 ghost use Rattle.ps_text.specs.Printed.{Prints, StaysBounded};
-ghost use Rattle.ps_ops_state.specs.Lent.{lent, IsGood};
+ghost use Rattle.ps_ops_state.specs.Lent.{lent_of, IsGood};
 ghost use Rattle.ps_step_outcome.specs.Ends as ends;
 ghost use Rattle.ps_step_outcome.specs.Turns.{TurnsWith, error_turn, nothing_more};
 
@@ -18,7 +18,7 @@ use ps_language::errors::ErrorName;
 use ps_mem::Memory;
 use ps_names::Names;
 use ps_ops_operands::failure::NotMade;
-use ps_ops_state::lent::{Context, Shared, Trial};
+use ps_ops_state::lent::{Attempt, Context, Runtime};
 use ps_text::outputs::Output;
 use ps_word::words::Word;
 use std::alloc::AllocError;
@@ -91,30 +91,35 @@ pub fn end_by_error<M: Memory>(
     error: ErrorName,
     command: Word,
     context: &mut Context,
-    shared: &mut Shared,
-    memory: &mut M,
-    trial: Trial,
+    runtime: &mut Runtime<M>,
+    attempt: Attempt,
 ) -> Result<Turned, NotMade>
-    requires good { IsGood
-        (lent (M.heap memory.old) (M.grants memory.old) context.old shared.old) }
-    requires held { IsValue (M.heap memory.old) command }
+    requires good { IsGood (lent_of M.heap M.grants context.old runtime.old) }
+    requires held { IsValue (M.heap runtime.old.memory) command }
     requires last { context.old.frames ≡ [] }
-    ensures { TurnsWith (command ∷ []) [] nothing_more (error_turn error command) trial result
-        (lent (M.heap memory.old) (M.grants memory.old) context.old shared.old)
-        (lent (M.heap memory.new) (M.grants memory.new) context.new shared.new) }
+    ensures { TurnsWith (command ∷ []) [] nothing_more (error_turn error command) attempt result
+        (lent_of M.heap M.grants context.old runtime.old)
+        (lent_of M.heap M.grants context.new runtime.new) }
 {
-    match permit_note(memory, trial.slot) {
+    match permit_note(&mut runtime.memory, attempt.slot) {
         Ok(()) => {}
         Err(reason) => return Err(reason),
     }
     let address = context.error_dictionary;
     let entries = entries_of(error, command, false);
-    let plan = plan_error(memory, address, entries);
-    match print_line(memory, &shared.names, plan, entries, &mut shared.printed) {
+    let plan = plan_error(&mut runtime.memory, address, entries);
+    let shared = &mut runtime.shared;
+    match print_line(
+        &mut runtime.memory,
+        &shared.names,
+        plan,
+        entries,
+        &mut shared.printed,
+    ) {
         Ok(()) => {}
         Err(AllocError) => return Err(NotMade::Memory),
     }
-    put_error(memory, trial.slot, address, plan, entries);
+    put_error(&mut runtime.memory, attempt.slot, address, plan, entries);
     Ok(Turned::Ends {
         told: stands(plan.newerror, 0, plan.room),
     })

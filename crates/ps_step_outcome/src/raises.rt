@@ -6,7 +6,7 @@ ghost use Rattle.ps_language.specs.Value.{Store};
 ghost use Rattle.ps_mem.specs.Heap.{Heap};
 ghost use Rattle.ps_mem.specs.Meaning.{value_of};
 ghost use Rattle.ps_mem.specs.Shows.{IsValue, IsWithin};
-ghost use Rattle.ps_ops_state.specs.Lent.{lent, IsGood};
+ghost use Rattle.ps_ops_state.specs.Lent.{lent_of, IsGood};
 ghost use Rattle.ps_step_outcome.specs.Turns.{Turns, TurnsWith, error_turn, nothing_more, operator_error};
 
 use crate::ends::end_by_error;
@@ -17,7 +17,7 @@ use ps_language::operators::Operator;
 use ps_mem::Memory;
 use ps_ops_control::frames::Cause;
 use ps_ops_operands::failure::NotMade;
-use ps_ops_state::lent::{Context, Shared, Trial};
+use ps_ops_state::lent::{Attempt, Context, Runtime};
 use ps_word::values::{Content, Value};
 use ps_word::words::Word;
 
@@ -31,21 +31,20 @@ pub fn raise<M: Memory>(
     error: ErrorName,
     command: Word,
     context: &mut Context,
-    shared: &mut Shared,
-    memory: &mut M,
-    trial: Trial,
+    runtime: &mut Runtime<M>,
+    attempt: Attempt,
 ) -> Result<Turned, NotMade>
-    requires good { IsGood
-        (lent (M.heap memory.old) (M.grants memory.old) context.old shared.old) }
-    requires held { IsValue (M.heap memory.old) command }
-    ensures { TurnsWith (command ∷ []) [] nothing_more (error_turn error command) trial result
-        (lent (M.heap memory.old) (M.grants memory.old) context.old shared.old)
-        (lent (M.heap memory.new) (M.grants memory.new) context.new shared.new) }
+    requires good { IsGood (lent_of M.heap M.grants context.old runtime.old) }
+    requires held { IsValue (M.heap runtime.old.memory) command }
+    ensures { TurnsWith (command ∷ []) [] nothing_more (error_turn error command) attempt result
+        (lent_of M.heap M.grants context.old runtime.old)
+        (lent_of M.heap M.grants context.new runtime.new) }
 {
     if context.frames.len() == 0 {
-        return end_by_error(error, command, context, shared, memory, trial);
+        return end_by_error(error, command, context, runtime, attempt);
     }
-    match note(memory, trial.slot, context.error_dictionary, error, command) {
+    let address = context.error_dictionary;
+    match note(&mut runtime.memory, attempt.slot, address, error, command) {
         Ok(()) => Ok(Turned::Breaks(Cause::Stop)),
         Err(reason) => Err(reason),
     }
@@ -75,16 +74,14 @@ pub fn raise_by<M: Memory>(
     operator: Operator,
     error: ErrorName,
     context: &mut Context,
-    shared: &mut Shared,
-    memory: &mut M,
-    trial: Trial,
+    runtime: &mut Runtime<M>,
+    attempt: Attempt,
 ) -> Result<Turned, NotMade>
-    requires good { IsGood
-        (lent (M.heap memory.old) (M.grants memory.old) context.old shared.old) }
-    ensures { Turns nothing_more (operator_error operator error) trial result
-        (lent (M.heap memory.old) (M.grants memory.old) context.old shared.old)
-        (lent (M.heap memory.new) (M.grants memory.new) context.new shared.new) }
+    requires good { IsGood (lent_of M.heap M.grants context.old runtime.old) }
+    ensures { Turns nothing_more (operator_error operator error) attempt result
+        (lent_of M.heap M.grants context.old runtime.old)
+        (lent_of M.heap M.grants context.new runtime.new) }
 {
     let command = operator_command(operator);
-    raise(error, command, context, shared, memory, trial)
+    raise(error, command, context, runtime, attempt)
 }

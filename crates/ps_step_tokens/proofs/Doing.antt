@@ -24,7 +24,7 @@ use Rattle.ps_names.specs.Names.{place_of}
 use Rattle.ps_names.proofs.Places.{meet_new}
 use Rattle.ps_ops_operands.specs.declared.failure.NotMade.{NotMade as Reason}
 use Rattle.ps_ops_operands.specs.declared.failure.NotMade.TheVariants.{Memory}
-use Rattle.ps_ops_state.specs.declared.lent.Trial.{Trial}
+use Rattle.ps_ops_state.specs.declared.lent.Attempt.{Attempt}
 use Rattle.ps_ops_state.specs.Acts.{Asked, needs_between}
 use Rattle.ps_ops_state.specs.Lent.{Lent, scene_of, around_of, IsShown, IsGood}
 use Rattle.ps_ops_state.proofs.Forming.{formed_left}
@@ -49,23 +49,23 @@ number_pushed l w number means s = λ i. pushed (means i) (means i) (scene_of l 
 -- ---- a value in hand, which is the command too
 
 pub lent_turns : (l : Lent) (w : Word) → IsLent l w
-    → (asks : Lent → Store → Asked) (turn : Lent → Store → Turn) (trial : Trial)
+    → (asks : Lent → Store → Asked) (turn : Lent → Store → Turn) (attempt : Attempt)
     (result : Result Turned Reason) (new : Lent)
-    → TurnsWith (w ∷ w ∷ []) [] asks turn trial result l new → Turns asks turn trial result l new
-lent_turns l w held asks turn trial result new =
-    turns_shown (w ∷ w ∷ []) [] asks turn trial result l new
+    → TurnsWith (w ∷ w ∷ []) [] asks turn attempt result l new → Turns asks turn attempt result l new
+lent_turns l w held asks turn attempt result new =
+    turns_shown (w ∷ w ∷ []) [] asks turn attempt result l new
     (λ s shown. (held.within s shown, (held.within s shown, tt))) (λ s shown. tt)
 
 -- ---- the value of a name behind //
 
-module _ (l : Lent) (w : Word) (held : IsLent l w) (trial : Trial)
+module _ (l : Lent) (w : Word) (held : IsLent l w) (attempt : Attempt)
     (result : Result Turned Reason) (new : Lent) (asks : Asks) where
   abbrev Finds : LookedUp → Type 0
   Finds found = (s : Store) → IsShown l s
       → looked_up (meaning l w) (scene_of l s).dictionaries s ≡ found
 
   abbrev Comes : Type 0
-  Comes = Turns (met_asks asks Immediate w) (met_turn Immediate w) trial result l new
+  Comes = Turns (met_asks asks Immediate w) (met_turn Immediate w) attempt result l new
 
   -- what is done with what was looked up
   found_turn : (found : LookedUp) (s : Store) → Turn
@@ -75,30 +75,30 @@ module _ (l : Lent) (w : Word) (held : IsLent l w) (trial : Trial)
   pub value_done : (value : Word)
       → ((s : Store) → IsShown l s → IsWithin (birth_at l.heap) l.names s value)
       → Finds (known (meaning l value))
-      → TurnsWith (value ∷ w ∷ []) [] (executed_asks asks value) (done_turn w value) trial result l
+      → TurnsWith (value ∷ w ∷ []) [] (executed_asks asks value) (done_turn w value) attempt result l
       new → Comes
   unfolding found_turn
   value_done value within found turns =
       turns_as (executed_asks asks value) (met_asks asks Immediate w) (done_turn w value)
-      (met_turn Immediate w) trial result l new
+      (met_turn Immediate w) attempt result l new
       (λ s shown. sym (ap (λ (looked : LookedUp). found_turn looked s) (found s shown)))
       (λ s shown. sym (ap (λ (looked : LookedUp). replaced_asks asks looked (around_of l) (scene_of l s))
       (found s shown)))
-      (turns_shown (value ∷ w ∷ []) [] (executed_asks asks value) (done_turn w value) trial result l
+      (turns_shown (value ∷ w ∷ []) [] (executed_asks asks value) (done_turn w value) attempt result l
       new (λ s shown. (within s shown, (held.within s shown, tt))) (λ s shown. tt) turns)
 
   pub value_unknown : Finds unknown
-      → TurnsWith (w ∷ []) [] nothing_more (error_turn Undefined w) trial result l new → Comes
+      → TurnsWith (w ∷ []) [] nothing_more (error_turn Undefined w) attempt result l new → Comes
   unfolding found_turn
   value_unknown found turns =
-      raised (met_asks asks Immediate w) (met_turn Immediate w) trial result l new w held.within
+      raised (met_asks asks Immediate w) (met_turn Immediate w) attempt result l new w held.within
       Undefined (λ s shown. ap (λ (looked : LookedUp). found_turn looked s) (found s shown)) turns
 
   pub value_unreadable : Finds unreadable
-      → TurnsWith (w ∷ []) [] nothing_more (error_turn InvalidAccess w) trial result l new → Comes
+      → TurnsWith (w ∷ []) [] nothing_more (error_turn InvalidAccess w) attempt result l new → Comes
   unfolding found_turn
   value_unreadable found turns =
-      raised (met_asks asks Immediate w) (met_turn Immediate w) trial result l new w held.within
+      raised (met_asks asks Immediate w) (met_turn Immediate w) attempt result l new w held.within
       InvalidAccess (λ s shown. ap (λ (looked : LookedUp). found_turn looked s) (found s shown))
       turns
 
@@ -114,15 +114,15 @@ Leaves names (leaves_to calling kept) = ⊥
 
 module _ (l : Lent) (names : List (List ℕ)) (more : length l.names < length names) where
   -- which asks for one more at least
-  pub one_more : (trial : Trial) (asked : Asked) (birth : ℕ) (s : Store)
+  pub one_more : (attempt : Attempt) (asked : Asked) (birth : ℕ) (s : Store)
       → (turn : Turn) → Leaves names turn
-      → 1 ≤ (turn_needs trial.refused asked birth (scene_of l s) turn).names
-  one_more trial asked birth s (goes scene output) are =
+      → 1 ≤ (turn_needs attempt.refused asked birth (scene_of l s) turn).names
+  one_more attempt asked birth s (goes scene output) are =
       let same = ap length are in omega (arith, same, more)
-  one_more trial asked birth s (tries command kept scene output) are =
+  one_more attempt asked birth s (tries command kept scene output) are =
       let same = ap length are in
       let some : 1 ≤ length scene.names - length l.names = omega (arith, same, more) in
-      by (lacks_room trial.refused kept.store scene.store) some
+      by (lacks_room attempt.refused kept.store scene.store) some
     where
       by : (lacking : Bool) → 1 ≤ length scene.names - length l.names
           → 1 ≤ (if lacking then error_needs asked.scratch birth (scene_of l s) VmError command
@@ -130,10 +130,10 @@ module _ (l : Lent) (names : List (List ℕ)) (more : length l.names < length na
           else needs_between asked (scene_of l s) scene output).names
       by true some = some
       by false some = some
-  one_more trial asked birth s (breaks cause scene) are = absurd are
-  one_more trial asked birth s (errs error command kept) are =
+  one_more attempt asked birth s (breaks cause scene) are = absurd are
+  one_more attempt asked birth s (errs error command kept) are =
       let same = ap length are in omega (arith, same, more)
-  one_more trial asked birth s (leaves_to calling kept) are = absurd are
+  one_more attempt asked birth s (leaves_to calling kept) are = absurd are
 
 -- ---- a name
 
@@ -227,14 +227,14 @@ module _ (l : Lent) (text : List ℕ) where
 
     -- a new name wants its memory, whatever its token does
     pub name_refused : IsGood l → place_of text l.names ≡ None → names ≡ meet l.names text
-        → (asks : Asks) (kind : NameKind) (trial : Trial)
-        → Turns (token_asks asks (name_token kind text)) (token_turn (name_token kind text)) trial
+        → (asks : Asks) (kind : NameKind) (attempt : Attempt)
+        → Turns (token_asks asks (name_token kind text)) (token_turn (name_token kind text)) attempt
         (Err Memory) l l
-    name_refused good unmet met asks kind trial =
+    name_refused good unmet met asks kind attempt =
         let size = ap length (met ∙ sym (meet_new text l.names unmet))
         ∙ length_push l.names text in
-        unmade (token_asks asks (name_token kind text)) (token_turn (name_token kind text)) trial l
+        unmade (token_asks asks (name_token kind text)) (token_turn (name_token kind text)) attempt l
         good Memory λ s shown.
-        inr (inl (one_more l names (omega (arith, size)) trial
+        inr (inl (one_more l names (omega (arith, size)) attempt
         (token_asks asks (name_token kind text) l s) (birth_at l.heap l.error_dictionary) s _
         (name_leaves good unmet s shown kind)))

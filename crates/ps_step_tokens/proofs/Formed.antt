@@ -9,7 +9,7 @@ use Rattle.ps_language.specs.StepValues.{Turn, goes, tries, breaks, errs, asks a
 use Rattle.ps_mem.specs.Heap.{birth_at}
 use Rattle.ps_ops_operands.specs.declared.failure.NotMade.{NotMade as Reason}
 use Rattle.ps_ops_operands.specs.declared.failure.NotMade.TheVariants.{LogFull, LogClosed, NeedSpace, Memory}
-use Rattle.ps_ops_state.specs.declared.lent.Trial.{Trial}
+use Rattle.ps_ops_state.specs.declared.lent.Attempt.{Attempt}
 use Rattle.ps_ops_state.specs.Lent.{Lent, scene_of, IsShown, IsGood}
 use Rattle.ps_ops_state.specs.Acts.{Asked, Needs, needs_between, IsReason}
 use Rattle.ps_ops_state.proofs.Forming.{formed_left}
@@ -104,24 +104,24 @@ module _ (l : Lent) (more names : List (List ℕ)) (are : names ≡ l.names ++ m
   -- ---- the turn
 
   module _ (asks over_asks : Lent → Store → Asked) (turn over : Lent → Store → Turn)
-      (trial : Trial)
+      (attempt : Attempt)
       (same : (s : Store) → IsShown l s → over formed s ≡ turn l s)
       (asked : (s : Store) → IsShown l s → over_asks formed s ≡ asks l s) where
     covered : (s : Store) → IsShown l s
-        → AreNeedsWithin (needs_in trial over_asks over formed s) (needs_in trial asks turn l s)
+        → AreNeedsWithin (needs_in attempt over_asks over formed s) (needs_in attempt asks turn l s)
     covered s shown =
-        subst (λ (n : Needs). AreNeedsWithin n (needs_in trial asks turn l s))
-        (λ i. turn_needs trial.refused (sym (asked s shown) i)
+        subst (λ (n : Needs). AreNeedsWithin n (needs_in attempt asks turn l s))
+        (λ i. turn_needs attempt.refused (sym (asked s shown) i)
         (birth_at l.heap l.error_dictionary) (scene_of formed s) (sym (same s shown) i))
-        (all_covered trial.refused (asks l s) (birth_at l.heap l.error_dictionary) s (turn l s))
+        (all_covered attempt.refused (asks l s) (birth_at l.heap l.error_dictionary) s (turn l s))
 
     pub turns_formed : (turned : Turned) (new : Lent)
-        → Turns over_asks over trial (Ok turned) formed new
-        → Turns asks turn trial (Ok turned) l new
+        → Turns over_asks over attempt (Ok turned) formed new
+        → Turns asks turn attempt (Ok turned) l new
     turns_formed turned new turns = record {
       meets = λ s shown.
           let by = turns.meets s (formed_left l more names are s shown).shown in
-          let did : IsTurned trial.refused (over formed s) turned s l new = record {
+          let did : IsTurned attempt.refused (over formed s) turned s l new = record {
             after = by.did.after;
             shown = by.did.shown;
             lasts = by.did.lasts;
@@ -129,8 +129,8 @@ module _ (l : Lent) (more names : List (List ℕ)) (are : names ≡ l.names ++ m
             is = by.did.is;
           } in
           record {
-            did = subst (λ (t : Turn). IsTurned trial.refused t turned s l new) (same s shown) did;
-            logs = logs_more _ _ l.grants new.grants trial.slot (covered s shown).records by.logs;
+            did = subst (λ (t : Turn). IsTurned attempt.refused t turned s l new) (same s shown) did;
+            logs = logs_more _ _ l.grants new.grants attempt.slot (covered s shown).records by.logs;
           };
       good = turns.good;
       keeps = turns.keeps;
@@ -152,15 +152,15 @@ module _ (l : Lent) (more names : List (List ℕ)) (are : names ≡ l.names ++ m
 
     -- not made; the names are taken back
     pub unmade_formed : IsGood l → (reason : Reason) (new : Lent)
-        → Turns over_asks over trial (Err reason) formed new
-        → Turns asks turn trial (Err reason) l (without new)
+        → Turns over_asks over attempt (Err reason) formed new
+        → Turns asks turn attempt (Err reason) l (without new)
     unmade_formed good reason new turns = record {
       meets = λ s shown.
           let by = turns.meets s (formed_left l more names are s shown).shown in
           record {
             did = (
-              reason_more _ _ (covered s shown) trial.slot l (without new) reason
-                  (moved_reason _ trial.slot new reason by.did.0),
+              reason_more _ _ (covered s shown) attempt.slot l (without new) reason
+                  (moved_reason _ attempt.slot new reason by.did.0),
               ap without by.did.1,
             );
             logs = by.logs;

@@ -16,7 +16,7 @@ use Rattle.ps_mem.proofs.KeepsLemmas.{AreWithin-kept, values_of-kept, known_valu
 use Rattle.ps_mem.proofs.NewShows.{longer}
 use Rattle.ps_ops_operands.specs.declared.failure.NotMade.TheVariants.{Memory}
 use Rattle.ps_ops_operands.specs.Changes.{values_in, KeepsLogsWithin}
-use Rattle.ps_ops_state.specs.declared.lent.Trial.{Trial}
+use Rattle.ps_ops_state.specs.declared.lent.Attempt.{Attempt}
 use Rattle.ps_ops_state.specs.declared.lent.Scratch.{Scratch}
 use Rattle.ps_ops_state.specs.Acts.{IsAtLeast, Lasts}
 use Rattle.ps_ops_state.specs.Lent.{Lent, rooms_of, IsEmpty, scene_of, IsShown, IsGood}
@@ -57,21 +57,21 @@ module _ (l : Lent) (content : Tokens) where
       subst (Lasts s) (sym a.store_is) (longer s a.added)
 
   -- refused
-  pub formed_lacks : (command : Word) → meaning l command ≡ null → (trial : Trial)
-      (result : _) (new : Lent) → trial.refused ≡ true → (s : Store)
-      → LacksRoom (formed_asks content) (formed_turn content) trial result l new command s
-  formed_lacks command means trial result new refused s =
+  pub formed_lacks : (command : Word) → meaning l command ≡ null → (attempt : Attempt)
+      (result : _) (new : Lent) → attempt.refused ≡ true → (s : Store)
+      → LacksRoom (formed_asks content) (formed_turn content) attempt result l new command s
+  formed_lacks command means attempt result new refused s =
       let words = words_made s in
       record {
         scene = scene s;
         is = ap (λ (c : Value). tries c (scene_of l s) (scene s) []) (sym means);
         names = refl;
-        lacking = lacks_made trial.refused s (made s).store refused (omega (arith, words));
+        lacking = lacks_made attempt.refused s (made s).store refused (omega (arith, words));
       }
 
-  module _ (trial : Trial) (good : IsGood l) (refused : trial.refused ≡ false) where
+  module _ (attempt : Attempt) (good : IsGood l) (refused : attempt.refused ≡ false) where
     -- without room in the memory
-    pub formed_wants : (s : Store) → Wants (formed_asks content) (formed_turn content) trial l good
+    pub formed_wants : (s : Store) → Wants (formed_asks content) (formed_turn content) attempt l good
         refused (procedure_words content) (procedure_births content) s
     formed_wants s = record {
       command = null;
@@ -83,21 +83,21 @@ module _ (l : Lent) (content : Tokens) where
 
     -- without room in the list
     pub formed_unlisted : vec_capacity l.scratch.words < listed (procedure_words content)
-        → (grants : Grants) → KeepsLogsWithin 0 l.grants grants trial.slot → (scratch : Scratch)
+        → (grants : Grants) → KeepsLogsWithin 0 l.grants grants attempt.slot → (scratch : Scratch)
         → IsEmpty scratch → IsAtLeast (rooms_of l.scratch) (rooms_of scratch)
-        → Turns (formed_asks content) (formed_turn content) trial (Err Memory) l
+        → Turns (formed_asks content) (formed_turn content) attempt (Err Memory) l
         (record l { grants = grants; scratch = scratch })
     formed_unlisted less grants logs scratch empty least =
-        unmade_listed (formed_asks content) (formed_turn content) trial l good Memory grants logs
+        unmade_listed (formed_asks content) (formed_turn content) attempt l good Memory grants logs
         scratch empty least λ s shown.
-        rw (has_made trial.refused s (made s).store refused) (inr (inr (inr (inr (inr less)))))
+        rw (has_made attempt.refused s (made s).store refused) (inr (inr (inr (inr (inr less)))))
 
     -- made
     pub formed_makes : (heap : Heap) (grants : Grants) (keeps : Keeps l.heap heap) (w : Word)
         (scratch : Scratch)
         → IsMade (whole_made content) l.names l.dictionaries l.heap heap w
         → (s : Store) → IsShown l s
-        → Makes (formed_asks content) (formed_turn content) trial l good refused heap grants
+        → Makes (formed_asks content) (formed_turn content) attempt l good refused heap grants
         (w ∷ l.operands) scratch keeps s
     formed_makes heap grants keeps w scratch is s shown =
         let known = known_values l.heap l.operands good.operands in

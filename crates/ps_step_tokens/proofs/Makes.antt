@@ -15,7 +15,7 @@ use Rattle.ps_mem.specs.Keeps.{Keeps}
 use Rattle.ps_mem.specs.Shows.{IsSound, AreValues, AreWithin, Shows}
 use Rattle.ps_ops_operands.specs.declared.failure.NotMade.{NotMade as Reason}
 use Rattle.ps_ops_operands.specs.Changes.{values_in, KeepsLogsWithin, IsRoomReason}
-use Rattle.ps_ops_state.specs.declared.lent.Trial.{Trial}
+use Rattle.ps_ops_state.specs.declared.lent.Attempt.{Attempt}
 use Rattle.ps_ops_state.specs.declared.lent.Scratch.{Scratch}
 use Rattle.ps_ops_state.specs.Lent.{Lent, rooms_of, IsEmpty, scene_of, IsShown, IsGood}
 use Rattle.ps_ops_state.specs.Acts.{Asked, needs_between, IsReason, IsAtLeast, Lasts}
@@ -41,8 +41,8 @@ pub has_made : (refused : Bool) (s after : Store) → refused ≡ false
     → lacks_room refused s after ≡ false
 has_made refused s after is = rw is refl
 
-module _ (asks : Lent → Store → Asked) (turn : Lent → Store → Turn) (trial : Trial) (l : Lent)
-    (good : IsGood l) (refused : trial.refused ≡ false) where
+module _ (asks : Lent → Store → Asked) (turn : Lent → Store → Turn) (attempt : Attempt) (l : Lent)
+    (good : IsGood l) (refused : attempt.refused ≡ false) where
   -- the turn would leave what asks for so much room
   pub record Wants (words births : ℕ) (s : Store) : Type 0 where
     pub command : Value
@@ -53,18 +53,18 @@ module _ (asks : Lent → Store → Asked) (turn : Lent → Store → Turn) (tri
 
   pub no_room : (words births : ℕ) → 1 ≤ words → (reason : Reason)
       → IsRoomReason reason l.heap words births → (grants : Grants)
-      → KeepsLogsWithin 0 l.grants grants trial.slot
+      → KeepsLogsWithin 0 l.grants grants attempt.slot
       → ((s : Store) → IsShown l s → Wants words births s)
-      → Turns asks turn trial (Err reason) l (record l { grants = grants })
+      → Turns asks turn attempt (Err reason) l (record l { grants = grants })
   no_room words births some reason why grants logs wants =
-      unmade_granted asks turn trial l good reason grants logs λ s shown.
+      unmade_granted asks turn attempt l good reason grants logs λ s shown.
       let w = wants s shown in
       let birth = birth_at l.heap l.error_dictionary in
       let needed = needs_between (asks l s) (scene_of l s) w.scene [] in
-      subst (λ (t : Turn). IsReason (turn_needs trial.refused (asks l s) birth (scene_of l s) t)
-      trial.slot l (record l { grants = grants }) reason) (sym w.is)
-      (rw (has_made trial.refused s w.scene.store refused)
-      (room_reason needed trial.slot l (record l { grants = grants }) words births w.words_are
+      subst (λ (t : Turn). IsReason (turn_needs attempt.refused (asks l s) birth (scene_of l s) t)
+      attempt.slot l (record l { grants = grants }) reason) (sym w.is)
+      (rw (has_made attempt.refused s w.scene.store refused)
+      (room_reason needed attempt.slot l (record l { grants = grants }) words births w.words_are
       w.births_are some reason why))
 
   -- ---- made
@@ -87,7 +87,7 @@ module _ (asks : Lent → Store → Asked) (turn : Lent → Store → Turn) (tri
       pub are : values_in heap l.names operands ≡ values
 
     made_turned : (s : Store) → IsShown l s → Makes s
-        → IsTurned trial.refused (turn l s) Goes s l made
+        → IsTurned attempt.refused (turn l s) Goes s l made
     made_turned s shown m =
         let left = changed_left l good heap grants operands keeps s m.after m.lasts shown m.shows
         m.within m.values m.are in
@@ -102,24 +102,24 @@ module _ (asks : Lent → Store → Asked) (turn : Lent → Store → Turn) (tri
           lasts = m.lasts;
           leaves = tt;
           is = λ machine was address.
-              ap (after_turn trial.refused machine) m.is
-              ∙ rw (has_made trial.refused s m.after refused)
+              ap (after_turn attempt.refused machine) m.is
+              ∙ rw (has_made attempt.refused s m.after refused)
               (λ i. reaches (settled (record (with_scene (sym left.is i) running machine)
               { printed = (append-nil machine.printed ∙ was) i })));
         }
 
     pub makes_turns : IsSound heap → AreValues heap operands
-        → KeepsLogsWithin 0 l.grants grants trial.slot → IsEmpty scratch
+        → KeepsLogsWithin 0 l.grants grants attempt.slot → IsEmpty scratch
         → IsAtLeast (rooms_of l.scratch) (rooms_of scratch)
         → ((s : Store) → IsShown l s → Makes s)
-        → Turns asks turn trial (Ok Goes) l made
+        → Turns asks turn attempt (Ok Goes) l made
     makes_turns sound held logs empty least makes =
         let well = changed_good l good heap grants operands keeps
         (record { sound = sound; values = held }) in
         record {
           meets = λ s shown. record {
             did = made_turned s shown (makes s shown);
-            logs = logs_more 0 _ l.grants grants trial.slot (omega arith) logs;
+            logs = logs_more 0 _ l.grants grants attempt.slot (omega arith) logs;
           };
           good = record {
             sound = well.sound;
@@ -133,7 +133,7 @@ module _ (asks : Lent → Store → Asked) (turn : Lent → Store → Turn) (tri
           };
           keeps = keeps;
           stays = stays_as l made refl refl refl refl (omega arith) least;
-          logs = logs_more 0 _ l.grants grants trial.slot (omega arith) logs;
+          logs = logs_more 0 _ l.grants grants attempt.slot (omega arith) logs;
           framed = tt;
           under_way = tt;
         }

@@ -17,7 +17,7 @@ use Rattle.ps_names.specs.Names.{place_of}
 use Rattle.ps_names.proofs.Places.{meet_new}
 use Rattle.ps_ops_operands.specs.declared.failure.NotMade.TheVariants.{Memory}
 use Rattle.ps_ops_operands.specs.Changes.{values_in}
-use Rattle.ps_ops_state.specs.declared.lent.Trial.{Trial}
+use Rattle.ps_ops_state.specs.declared.lent.Attempt.{Attempt}
 use Rattle.ps_ops_state.specs.Lent.{Lent, IsShown, IsGood}
 use Rattle.ps_ops_state.proofs.Forming.{formed_left}
 use Rattle.ps_step_outcome.specs.Turns.{Turns, error_turn, nothing_more}
@@ -44,13 +44,13 @@ module _ (l : Lent) (text : List ℕ) (error : ErrorName) where
         ∙ rw formed_is refl
 
     pub missing_refused : IsGood l → place_of text l.names ≡ None → names ≡ meet l.names text
-        → (trial : Trial)
-        → Turns nothing_more (missing_turn error text) trial (Err Memory) l l
-    missing_refused good unmet met trial =
+        → (attempt : Attempt)
+        → Turns nothing_more (missing_turn error text) attempt (Err Memory) l l
+    missing_refused good unmet met attempt =
         let size = ap length (met ∙ sym (meet_new text l.names unmet))
         ∙ length_push l.names text in
-        unmade nothing_more (missing_turn error text) trial l good Memory λ s shown.
-        inr (inl (one_more l names (omega (arith, size)) trial (nothing_more l s)
+        unmade nothing_more (missing_turn error text) attempt l good Memory λ s shown.
+        inr (inl (one_more l names (omega (arith, size)) attempt (nothing_more l s)
         (birth_at l.heap l.error_dictionary) s _ (rw formed_is refl)))
 
 -- ---- looked up by its key

@@ -17,7 +17,7 @@ use Rattle.ps_names.specs.Names.{AreNames}
 use Rattle.ps_mem.specs.Heap.{birth_at}
 use Rattle.ps_ops_operands.specs.declared.failure.NotMade.{NotMade as Reason}
 use Rattle.ps_ops_operands.specs.declared.failure.NotMade.TheVariants.{Memory}
-use Rattle.ps_ops_state.specs.declared.lent.Trial.{Trial}
+use Rattle.ps_ops_state.specs.declared.lent.Attempt.{Attempt}
 use Rattle.ps_ops_state.specs.Lent.{Lent, scene_of, IsShown, IsGood}
 use Rattle.ps_ops_state.proofs.Forming.{formed_left}
 use Rattle.ps_step_outcome.specs.declared.turned.Turned.{Turned}
@@ -81,12 +81,12 @@ module _ (l : Lent) (content : Tokens) where
 
   -- new ones want their memory
   pub named_refused : IsGood l → length l.names < length (fold meet l.names (names_in content))
-      → length (fold meet l.names (names_in content)) ≤ names_limit → (trial : Trial)
-      → Turns (named_asks content) (named_turn content) trial (Err Memory) l l
-  named_refused good more few trial =
+      → length (fold meet l.names (names_in content)) ≤ names_limit → (attempt : Attempt)
+      → Turns (named_asks content) (named_turn content) attempt (Err Memory) l l
+  named_refused good more few attempt =
       let is = may_form l.names (names_in content) few in
-      unmade (named_asks content) (named_turn content) trial l good Memory λ s shown.
-      inr (inl (one_more l (fold meet l.names (names_in content)) more trial
+      unmade (named_asks content) (named_turn content) attempt l good Memory λ s shown.
+      inr (inl (one_more l (fold meet l.names (names_in content)) more attempt
       (named_asks content l s) (birth_at l.heap l.error_dictionary) s _ (rw is refl)))
 
   module _ (names : List (List ℕ)) (formed_is : form l.names (names_in content) ≡ Some names)
@@ -138,26 +138,26 @@ module _ (l : Lent) (content : Tokens) where
     unfolding token_done
     procedure_named s is = rw (free_operands l.operands (birth_at l.heap) l.names few, is) refl
 
-    module _ (trial : Trial) (result : Result Turned Reason) (new : Lent) where
+    module _ (attempt : Attempt) (result : Result Turned Reason) (new : Lent) where
       pub missing_done : (missing : Missing)
           → ((s : Store) → IsShown l s
           → missing_in (look_in (scene_of l s)) content ≡ Some missing)
-          → Turns nothing_more (missing_turn missing.error missing.text) trial result l new
-          → Turns (procedure_asks content) (token_turn (procedure_token content)) trial result l new
+          → Turns nothing_more (missing_turn missing.error missing.text) attempt result l new
+          → Turns (procedure_asks content) (token_turn (procedure_token content)) attempt result l new
       missing_done missing is turns =
           turns_as nothing_more (procedure_asks content)
-          (missing_turn missing.error missing.text) (token_turn (procedure_token content)) trial
+          (missing_turn missing.error missing.text) (token_turn (procedure_token content)) attempt
           result l new (λ s shown. sym (procedure_missing s missing (is s shown)))
           (λ s shown. sym (ap (list_asks (procedure_words content))
           (procedure_missing s missing (is s shown)) ∙ unlisted s missing)) turns
 
       pub named_done : ((s : Store) → IsShown l s
           → missing_in (look_in (scene_of l s)) content ≡ None)
-          → Turns (named_asks content) (named_turn content) trial result l new
-          → Turns (procedure_asks content) (token_turn (procedure_token content)) trial result l new
+          → Turns (named_asks content) (named_turn content) attempt result l new
+          → Turns (procedure_asks content) (token_turn (procedure_token content)) attempt result l new
       named_done is turns =
           turns_as (named_asks content) (procedure_asks content) (named_turn content)
-          (token_turn (procedure_token content)) trial result l new
+          (token_turn (procedure_token content)) attempt result l new
           (λ s shown. sym (procedure_named s (is s shown)))
           (λ s shown. sym (ap (list_asks (procedure_words content))
           (procedure_named s (is s shown)))) turns

@@ -22,7 +22,7 @@ use Rattle.ps_mem.proofs.Lists.{slice_get-append_end}
 use Rattle.ps_mem.proofs.NewShows.{longer}
 use Rattle.ps_ops_operands.specs.Changes.{values_in}
 use Rattle.ps_ops_operands.proofs.Making.{whole_part, whole_part-end, part_of-whole}
-use Rattle.ps_ops_state.specs.declared.lent.Trial.{Trial}
+use Rattle.ps_ops_state.specs.declared.lent.Attempt.{Attempt}
 use Rattle.ps_ops_state.specs.Lent.{Lent, scene_of, IsShown, IsGood}
 use Rattle.ps_step_outcome.specs.Turns.{error_turn, nothing_more}
 use Rattle.ps_step_execute.specs.Values.{meaning}
@@ -61,20 +61,20 @@ module _ (l : Lent) (text : List ℕ) (command : Word) (means : meaning l comman
     some_words s = let size = made-new s (string_object text) in omega (arith, size)
 
     -- refused
-    pub string_lacks : (trial : Trial) (result : _) (new : Lent) → trial.refused ≡ true
+    pub string_lacks : (attempt : Attempt) (result : _) (new : Lent) → attempt.refused ≡ true
         → (s : Store)
-        → LacksRoom nothing_more (token_turn (string_token text)) trial result l new command s
-    string_lacks trial result new refused s = record {
+        → LacksRoom nothing_more (token_turn (string_token text)) attempt result l new command s
+    string_lacks attempt result new refused s = record {
       scene = scene s;
       is = string_tries s ∙ ap (λ (c : Value). tries c (scene_of l s) (scene s) []) (sym means);
       names = refl;
-      lacking = lacks_made trial.refused s (grown s) refused (some_words s);
+      lacking = lacks_made attempt.refused s (grown s) refused (some_words s);
     }
 
-    module _ (trial : Trial) (good : IsGood l) (refused : trial.refused ≡ false) where
+    module _ (attempt : Attempt) (good : IsGood l) (refused : attempt.refused ≡ false) where
       -- without room
       pub string_wants : (words : ℕ) → words ≡ 2 + (length text + 7) / 8 → (s : Store)
-          → Wants nothing_more (token_turn (string_token text)) trial l good refused words 1 s
+          → Wants nothing_more (token_turn (string_token text)) attempt l good refused words 1 s
       string_wants words are s = record {
         command = null;
         scene = scene s;
@@ -93,7 +93,7 @@ module _ (l : Lent) (text : List ℕ) (command : Word) (means : meaning l comman
           → part.offset + part.length ≤ length (bytes s (births part.address))
           → IsWithin births names s w)
           → (s : Store) → IsShown l s → Shows heap l.names (grown s)
-          → Makes nothing_more (token_turn (string_token text)) trial l good refused heap grants
+          → Makes nothing_more (token_turn (string_token text)) attempt l good refused heap grants
           (w ∷ l.operands) l.scratch keeps s
       string_makes heap grants keeps w part is birth value inside s shown shows =
           let born : birth_at heap part.address ≡ length s = birth ∙ shown.shows.next in

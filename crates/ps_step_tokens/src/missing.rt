@@ -7,7 +7,7 @@ ghost use Rattle.ps_language.specs.Value.{Store};
 ghost use Rattle.ps_mem.specs.Heap.{Heap};
 ghost use Rattle.ps_mem.specs.Shows.{AreValues, IsSound, IsValue, Shows};
 ghost use Rattle.ps_scan.specs.Shown.{part_of, token_of};
-ghost use Rattle.ps_ops_state.specs.Lent.{lent, IsGood};
+ghost use Rattle.ps_ops_state.specs.Lent.{lent_of, IsGood};
 ghost use Rattle.ps_step_outcome.specs.Turns.{Turns, nothing_more};
 ghost use Rattle.ps_step_tokens.specs.Missing.{IsMetKey, error_of, look_by, missing_of, missing_turn};
 ghost use Rattle.ps_step_tokens.specs.Procedures.{token_in, tokens_in};
@@ -19,7 +19,7 @@ use ps_mem::Memory;
 use ps_names::{Names, NamesFault};
 use ps_ops_operands::failure::NotMade;
 use ps_ops_operands::plain;
-use ps_ops_state::lent::{Context, Dictionaries, Shared, Trial};
+use ps_ops_state::lent::{Attempt, Context, Dictionaries, Runtime};
 use ps_scan::{Span, TokenKind};
 use ps_step_lookup::lookups::look_up;
 use ps_step_outcome::raises::raise;
@@ -145,23 +145,21 @@ pub(crate) fn raise_missing<M: Memory>(
     error: ErrorName,
     text: &[u8],
     context: &mut Context,
-    shared: &mut Shared,
-    memory: &mut M,
-    trial: Trial,
+    runtime: &mut Runtime<M>,
+    attempt: Attempt,
 ) -> Result<Turned, NotMade>
-    requires good { IsGood
-        (lent (M.heap memory.old) (M.grants memory.old) context.old shared.old) }
+    requires good { IsGood (lent_of M.heap M.grants context.old runtime.old) }
     requires short { length text.now ≤ name_limit }
-    ensures { Turns nothing_more (missing_turn error text.now) trial result
-        (lent (M.heap memory.old) (M.grants memory.old) context.old shared.old)
-        (lent (M.heap memory.new) (M.grants memory.new) context.new shared.new) }
+    ensures { Turns nothing_more (missing_turn error text.now) attempt result
+        (lent_of M.heap M.grants context.old runtime.old)
+        (lent_of M.heap M.grants context.new runtime.new) }
 {
-    let count = shared.names.len();
-    match shared.names.intern(text) {
-        Ok(id) => match raise(error, name_word(id, true), context, shared, memory, trial) {
+    let count = runtime.shared.names.len();
+    match runtime.shared.names.intern(text) {
+        Ok(id) => match raise(error, name_word(id, true), context, runtime, attempt) {
             Ok(turned) => Ok(turned),
             Err(reason) => {
-                shared.names.truncate(count);
+                runtime.shared.names.truncate(count);
                 Err(reason)
             }
         },
@@ -169,9 +167,8 @@ pub(crate) fn raise_missing<M: Memory>(
             ErrorName::LimitCheck,
             plain::null(),
             context,
-            shared,
-            memory,
-            trial,
+            runtime,
+            attempt,
         ),
         Err(NamesFault::Memory) => Err(NotMade::Memory),
         Err(NamesFault::TooLong) => unreachable!(),

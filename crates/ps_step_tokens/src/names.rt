@@ -3,7 +3,7 @@
 ghost use Rattle.std.specs.Prelude.{◌≡◌, ◌<◌, ◌≤◌, length};
 ghost use Rattle.ps_language.specs.Limits.{name_limit, names_limit};
 ghost use Rattle.ps_word.specs.Format.{value_in, IsWord};
-ghost use Rattle.ps_ops_state.specs.Lent.{lent, IsGood};
+ghost use Rattle.ps_ops_state.specs.Lent.{lent_of, IsGood};
 ghost use Rattle.ps_step_outcome.specs.Turns.{Turns};
 ghost use Rattle.ps_step_execute.specs.Values.{IsLent};
 ghost use Rattle.ps_step_tokens.specs.Names.{IsName, is_executed, met_asks, met_turn, name_token};
@@ -14,7 +14,7 @@ use ps_mem::Memory;
 use ps_names::{NameId, NamesFault};
 use ps_ops_operands::failure::NotMade;
 use ps_ops_operands::plain;
-use ps_ops_state::lent::{Context, Shared, Trial};
+use ps_ops_state::lent::{Attempt, Context, Runtime};
 use ps_step_execute::operates::Operate;
 use ps_step_execute::pushes::push_value;
 use ps_step_execute::values::{do_element, execute_name};
@@ -69,30 +69,21 @@ fn do_value<O: Operate, M: Memory>(
     word: Word,
     operators: &O,
     context: &mut Context,
-    shared: &mut Shared,
-    memory: &mut M,
-    trial: Trial,
+    runtime: &mut Runtime<M>,
+    attempt: Attempt,
 ) -> Result<Turned, NotMade>
-    requires good { IsGood
-        (lent (M.heap memory.old) (M.grants memory.old) context.old shared.old) }
+    requires good { IsGood (lent_of M.heap M.grants context.old runtime.old) }
     requires word { IsLent
-        (lent (M.heap memory.old) (M.grants memory.old) context.old shared.old) word }
+        (lent_of M.heap M.grants context.old runtime.old) word }
     ensures { Turns (met_asks O.asks NameKind.Immediate word) (met_turn NameKind.Immediate word)
-        trial result
-        (lent (M.heap memory.old) (M.grants memory.old) context.old shared.old)
-        (lent (M.heap memory.new) (M.grants memory.new) context.new shared.new) }
+        attempt result
+        (lent_of M.heap M.grants context.old runtime.old)
+        (lent_of M.heap M.grants context.new runtime.new) }
 {
-    match look_up(memory, &context.dictionaries, Some(word)) {
-        Ok(Some(found)) => do_element(found.1, word, operators, context, shared, memory, trial),
-        Ok(None) => raise(ErrorName::Undefined, word, context, shared, memory, trial),
-        Err(_) => raise(
-            ErrorName::InvalidAccess,
-            word,
-            context,
-            shared,
-            memory,
-            trial,
-        ),
+    match look_up(&mut runtime.memory, &context.dictionaries, Some(word)) {
+        Ok(Some(found)) => do_element(found.1, word, operators, context, runtime, attempt),
+        Ok(None) => raise(ErrorName::Undefined, word, context, runtime, attempt),
+        Err(_) => raise(ErrorName::InvalidAccess, word, context, runtime, attempt),
     }
 }
 
@@ -103,23 +94,21 @@ fn do_met<O: Operate, M: Memory>(
     word: Word,
     operators: &O,
     context: &mut Context,
-    shared: &mut Shared,
-    memory: &mut M,
-    trial: Trial,
+    runtime: &mut Runtime<M>,
+    attempt: Attempt,
 ) -> Result<Turned, NotMade>
-    requires good { IsGood
-        (lent (M.heap memory.old) (M.grants memory.old) context.old shared.old) }
+    requires good { IsGood (lent_of M.heap M.grants context.old runtime.old) }
     requires word { IsLent
-        (lent (M.heap memory.old) (M.grants memory.old) context.old shared.old) word }
+        (lent_of M.heap M.grants context.old runtime.old) word }
     requires name { IsName (is_executed kind) word }
-    ensures { Turns (met_asks O.asks kind word) (met_turn kind word) trial result
-        (lent (M.heap memory.old) (M.grants memory.old) context.old shared.old)
-        (lent (M.heap memory.new) (M.grants memory.new) context.new shared.new) }
+    ensures { Turns (met_asks O.asks kind word) (met_turn kind word) attempt result
+        (lent_of M.heap M.grants context.old runtime.old)
+        (lent_of M.heap M.grants context.new runtime.new) }
 {
     match kind {
-        NameKind::Literal => push_value(word, word, context, shared, memory, trial),
-        NameKind::Executable => execute_name(word, word, operators, context, shared, memory, trial),
-        NameKind::Immediate => do_value(word, operators, context, shared, memory, trial),
+        NameKind::Literal => push_value(word, word, context, runtime, attempt),
+        NameKind::Executable => execute_name(word, word, operators, context, runtime, attempt),
+        NameKind::Immediate => do_value(word, operators, context, runtime, attempt),
     }
 }
 
@@ -138,26 +127,24 @@ pub fn do_name<O: Operate, M: Memory>(
     text: &[u8],
     operators: &O,
     context: &mut Context,
-    shared: &mut Shared,
-    memory: &mut M,
-    trial: Trial,
+    runtime: &mut Runtime<M>,
+    attempt: Attempt,
 ) -> Result<Turned, NotMade>
-    requires good { IsGood
-        (lent (M.heap memory.old) (M.grants memory.old) context.old shared.old) }
+    requires good { IsGood (lent_of M.heap M.grants context.old runtime.old) }
     requires short { length text.now ≤ name_limit }
     ensures { Turns (token_asks O.asks (name_token kind text.now))
-        (token_turn (name_token kind text.now)) trial result
-        (lent (M.heap memory.old) (M.grants memory.old) context.old shared.old)
-        (lent (M.heap memory.new) (M.grants memory.new) context.new shared.new) }
+        (token_turn (name_token kind text.now)) attempt result
+        (lent_of M.heap M.grants context.old runtime.old)
+        (lent_of M.heap M.grants context.new runtime.new) }
 {
-    let count = shared.names.len();
-    match shared.names.intern(text) {
+    let count = runtime.shared.names.len();
+    match runtime.shared.names.intern(text) {
         Ok(id) => {
             let word = name_word(id, kind.is_executed());
-            match do_met(kind, word, operators, context, shared, memory, trial) {
+            match do_met(kind, word, operators, context, runtime, attempt) {
                 Ok(turned) => Ok(turned),
                 Err(reason) => {
-                    shared.names.truncate(count);
+                    runtime.shared.names.truncate(count);
                     Err(reason)
                 }
             }
@@ -166,9 +153,8 @@ pub fn do_name<O: Operate, M: Memory>(
             ErrorName::LimitCheck,
             plain::null(),
             context,
-            shared,
-            memory,
-            trial,
+            runtime,
+            attempt,
         ),
         Err(NamesFault::Memory) => Err(NotMade::Memory),
         Err(NamesFault::TooLong) => unreachable!(),

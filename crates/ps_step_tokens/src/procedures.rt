@@ -4,7 +4,7 @@ ghost use Rattle.std.specs.Prelude.{◌≡◌, ◌<◌, length};
 ghost use Rattle.ps_language.specs.Limits.{operand_limit};
 ghost use Rattle.ps_language.specs.StepTokens.{names_in};
 ghost use Rattle.ps_language.specs.Token.{procedure_token};
-ghost use Rattle.ps_ops_state.specs.Lent.{lent, IsGood};
+ghost use Rattle.ps_ops_state.specs.Lent.{lent_of, IsGood};
 ghost use Rattle.ps_step_outcome.specs.Turns.{Turns};
 ghost use Rattle.ps_step_tokens.specs.Made.{AreMet, formed_asks, formed_turn, named_asks, named_turn};
 ghost use Rattle.ps_step_tokens.specs.Procedures.{tokens_in};
@@ -21,7 +21,7 @@ use ps_names::NamesFault;
 use ps_ops_operands::failure::NotMade;
 use ps_ops_operands::permits::granted;
 use ps_ops_operands::plain;
-use ps_ops_state::lent::{Context, Shared, Trial};
+use ps_ops_state::lent::{Attempt, Context, Runtime};
 use ps_scan::TokenKind;
 use ps_step_outcome::raises::raise;
 use ps_step_outcome::turned::Turned;
@@ -37,41 +37,39 @@ fn do_formed<M: Memory>(
     elements: &[TokenKind],
     text: &[u8],
     context: &mut Context,
-    shared: &mut Shared,
-    memory: &mut M,
-    trial: Trial,
+    runtime: &mut Runtime<M>,
+    attempt: Attempt,
 ) -> Result<Turned, NotMade>
-    requires good { IsGood
-        (lent (M.heap memory.old) (M.grants memory.old) context.old shared.old) }
+    requires good { IsGood (lent_of M.heap M.grants context.old runtime.old) }
     requires short { IsShort (procedure_token (tokens_in text.now elements.now)) }
-    requires met { AreMet shared.old.names (names_in (tokens_in text.now elements.now)) }
+    requires met { AreMet runtime.old.shared.names (names_in (tokens_in text.now elements.now)) }
     requires few { length context.old.operands < operand_limit }
     ensures { Turns (formed_asks (tokens_in text.now elements.now))
-        (formed_turn (tokens_in text.now elements.now)) trial result
-        (lent (M.heap memory.old) (M.grants memory.old) context.old shared.old)
-        (lent (M.heap memory.new) (M.grants memory.new) context.new shared.new) }
+        (formed_turn (tokens_in text.now elements.now)) attempt result
+        (lent_of M.heap M.grants context.old runtime.old)
+        (lent_of M.heap M.grants context.new runtime.new) }
 {
-    if trial.refused {
-        return raise(
-            ErrorName::VmError,
-            plain::null(),
-            context,
-            shared,
-            memory,
-            trial,
-        );
+    if attempt.refused {
+        return raise(ErrorName::VmError, plain::null(), context, runtime, attempt);
     }
     let Some(room) = room_of(elements) else {
         return Err(NotMade::Memory);
     };
-    if let Err(reason) = granted(memory, room.words, room.births) {
+    if let Err(reason) = granted(&mut runtime.memory, room.words, room.births) {
         return Err(reason);
     }
-    if shared.scratch.words.reserve(room.words as usize).is_err() {
+    if runtime
+        .shared
+        .scratch
+        .words
+        .reserve(room.words as usize)
+        .is_err()
+    {
         return Err(NotMade::Memory);
     }
+    let shared = &mut runtime.shared;
     let word = make_elements(
-        memory,
+        &mut runtime.memory,
         &shared.names,
         &context.dictionaries,
         text,
@@ -92,27 +90,25 @@ fn do_named<M: Memory>(
     elements: &[TokenKind],
     text: &[u8],
     context: &mut Context,
-    shared: &mut Shared,
-    memory: &mut M,
-    trial: Trial,
+    runtime: &mut Runtime<M>,
+    attempt: Attempt,
 ) -> Result<Turned, NotMade>
-    requires good { IsGood
-        (lent (M.heap memory.old) (M.grants memory.old) context.old shared.old) }
+    requires good { IsGood (lent_of M.heap M.grants context.old runtime.old) }
     requires short { IsShort (procedure_token (tokens_in text.now elements.now)) }
     requires few { length context.old.operands < operand_limit }
     ensures { Turns (named_asks (tokens_in text.now elements.now))
-        (named_turn (tokens_in text.now elements.now)) trial result
-        (lent (M.heap memory.old) (M.grants memory.old) context.old shared.old)
-        (lent (M.heap memory.new) (M.grants memory.new) context.new shared.new) }
+        (named_turn (tokens_in text.now elements.now)) attempt result
+        (lent_of M.heap M.grants context.old runtime.old)
+        (lent_of M.heap M.grants context.new runtime.new) }
 {
-    let count = shared.names.len();
-    match meet_names(&mut shared.names, text, elements) {
+    let count = runtime.shared.names.len();
+    match meet_names(&mut runtime.shared.names, text, elements) {
         Ok(()) => {
-            let _formed = shared.names.len();
-            match do_formed(elements, text, context, shared, memory, trial) {
+            let _formed = runtime.shared.names.len();
+            match do_formed(elements, text, context, runtime, attempt) {
                 Ok(turned) => Ok(turned),
                 Err(reason) => {
-                    shared.names.truncate(count);
+                    runtime.shared.names.truncate(count);
                     Err(reason)
                 }
             }
@@ -121,9 +117,8 @@ fn do_named<M: Memory>(
             ErrorName::LimitCheck,
             plain::null(),
             context,
-            shared,
-            memory,
-            trial,
+            runtime,
+            attempt,
         ),
         Err(NamesFault::Memory) => Err(NotMade::Memory),
         Err(NamesFault::TooLong) => unreachable!(),
@@ -145,32 +140,35 @@ pub fn do_procedure<M: Memory>(
     elements: &[TokenKind],
     text: &[u8],
     context: &mut Context,
-    shared: &mut Shared,
-    memory: &mut M,
-    trial: Trial,
+    runtime: &mut Runtime<M>,
+    attempt: Attempt,
 ) -> Result<Turned, NotMade>
-    requires good { IsGood
-        (lent (M.heap memory.old) (M.grants memory.old) context.old shared.old) }
+    requires good { IsGood (lent_of M.heap M.grants context.old runtime.old) }
     requires short { IsShort (procedure_token (tokens_in text.now elements.now)) }
     ensures { Turns (procedure_asks (tokens_in text.now elements.now))
-        (token_turn (procedure_token (tokens_in text.now elements.now))) trial result
-        (lent (M.heap memory.old) (M.grants memory.old) context.old shared.old)
-        (lent (M.heap memory.new) (M.grants memory.new) context.new shared.new) }
+        (token_turn (procedure_token (tokens_in text.now elements.now))) attempt result
+        (lent_of M.heap M.grants context.old runtime.old)
+        (lent_of M.heap M.grants context.new runtime.new) }
 {
     if context.operands.is_full() {
         return raise(
             ErrorName::StackOverflow,
             plain::null(),
             context,
-            shared,
-            memory,
-            trial,
+            runtime,
+            attempt,
         );
     }
-    let missing = first_missing(memory, &shared.names, &context.dictionaries, text, elements);
+    let missing = first_missing(
+        &mut runtime.memory,
+        &runtime.shared.names,
+        &context.dictionaries,
+        text,
+        elements,
+    );
     if let Some(name) = missing {
         let span = name.span;
-        return raise_missing(name.error, span.of(text), context, shared, memory, trial);
+        return raise_missing(name.error, span.of(text), context, runtime, attempt);
     }
-    do_named(elements, text, context, shared, memory, trial)
+    do_named(elements, text, context, runtime, attempt)
 }

@@ -3,7 +3,7 @@
 ghost use Rattle.std.specs.Prelude.{◌≡◌, ◌<◌, ◌≤◌, length};
 ghost use Rattle.ps_language.specs.Limits.{sequence_limit};
 ghost use Rattle.ps_language.specs.Token.{string_token};
-ghost use Rattle.ps_ops_state.specs.Lent.{lent, IsGood};
+ghost use Rattle.ps_ops_state.specs.Lent.{lent_of, IsGood};
 ghost use Rattle.ps_step_outcome.specs.Turns.{Turns, nothing_more};
 ghost use Rattle.ps_step_tokens.specs.Tokens.{token_turn};
 
@@ -12,7 +12,7 @@ use ps_mem::Memory;
 use ps_ops_operands::failure::NotMade;
 use ps_ops_operands::permits::granted;
 use ps_ops_operands::plain;
-use ps_ops_state::lent::{Context, Shared, Trial};
+use ps_ops_state::lent::{Attempt, Context, Runtime};
 use ps_ops_strings::readers::string_word;
 use ps_seq::strings::{make_string, words_of_string};
 use ps_step_outcome::raises::raise;
@@ -29,36 +29,27 @@ use ps_step_outcome::turned::Turned;
 pub fn do_string<M: Memory>(
     bytes: &[u8],
     context: &mut Context,
-    shared: &mut Shared,
-    memory: &mut M,
-    trial: Trial,
+    runtime: &mut Runtime<M>,
+    attempt: Attempt,
 ) -> Result<Turned, NotMade>
-    requires good { IsGood
-        (lent (M.heap memory.old) (M.grants memory.old) context.old shared.old) }
+    requires good { IsGood (lent_of M.heap M.grants context.old runtime.old) }
     requires short { length bytes.now ≤ sequence_limit }
-    ensures { Turns nothing_more (token_turn (string_token bytes.now)) trial result
-        (lent (M.heap memory.old) (M.grants memory.old) context.old shared.old)
-        (lent (M.heap memory.new) (M.grants memory.new) context.new shared.new) }
+    ensures { Turns nothing_more (token_turn (string_token bytes.now)) attempt result
+        (lent_of M.heap M.grants context.old runtime.old)
+        (lent_of M.heap M.grants context.new runtime.new) }
 {
     let command = plain::null();
     if context.operands.is_full() {
-        return raise(
-            ErrorName::StackOverflow,
-            command,
-            context,
-            shared,
-            memory,
-            trial,
-        );
+        return raise(ErrorName::StackOverflow, command, context, runtime, attempt);
     }
-    if trial.refused {
-        return raise(ErrorName::VmError, command, context, shared, memory, trial);
+    if attempt.refused {
+        return raise(ErrorName::VmError, command, context, runtime, attempt);
     }
     let words = 2 + words_of_string(bytes.len() as u16);
-    if let Err(reason) = granted(memory, words, 1) {
+    if let Err(reason) = granted(&mut runtime.memory, words, 1) {
         return Err(reason);
     }
-    let part = make_string(memory, bytes);
+    let part = make_string(&mut runtime.memory, bytes);
     context.operands.push_reserved(string_word(part, false));
     Ok(Turned::Goes)
 }

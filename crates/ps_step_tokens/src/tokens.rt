@@ -2,7 +2,7 @@
 
 ghost use Rattle.std.specs.Prelude.{◌≡◌, ◌<◌};
 ghost use Rattle.ps_scan.specs.Shown.{token_of};
-ghost use Rattle.ps_ops_state.specs.Lent.{lent, IsGood};
+ghost use Rattle.ps_ops_state.specs.Lent.{lent_of, IsGood};
 ghost use Rattle.ps_step_outcome.specs.Turns.{Turns};
 ghost use Rattle.ps_step_tokens.specs.Short.{IsShort};
 ghost use Rattle.ps_step_tokens.specs.Tokens.{token_asks, token_turn};
@@ -13,7 +13,7 @@ use crate::procedures::do_procedure;
 use crate::strings::do_string;
 use ps_mem::Memory;
 use ps_ops_operands::failure::NotMade;
-use ps_ops_state::lent::{Context, Shared, Trial};
+use ps_ops_state::lent::{Attempt, Context, Runtime};
 use ps_scan::TokenKind;
 use ps_step_execute::operates::Operate;
 use ps_step_outcome::turned::Turned;
@@ -28,17 +28,15 @@ pub fn do_token<O: Operate, M: Memory>(
     text: &[u8],
     operators: &O,
     context: &mut Context,
-    shared: &mut Shared,
-    memory: &mut M,
-    trial: Trial,
+    runtime: &mut Runtime<M>,
+    attempt: Attempt,
 ) -> Result<Turned, NotMade>
-    requires good { IsGood
-        (lent (M.heap memory.old) (M.grants memory.old) context.old shared.old) }
+    requires good { IsGood (lent_of M.heap M.grants context.old runtime.old) }
     requires short { IsShort (token_of text.now kind.now) }
     ensures { Turns (token_asks O.asks (token_of text.now kind.now))
-        (token_turn (token_of text.now kind.now)) trial result
-        (lent (M.heap memory.old) (M.grants memory.old) context.old shared.old)
-        (lent (M.heap memory.new) (M.grants memory.new) context.new shared.new) }
+        (token_turn (token_of text.now kind.now)) attempt result
+        (lent_of M.heap M.grants context.old runtime.old)
+        (lent_of M.heap M.grants context.new runtime.new) }
 {
     let (name_kind, span) = match kind {
         TokenKind::LiteralName(span) => (NameKind::Literal, *span),
@@ -46,13 +44,13 @@ pub fn do_token<O: Operate, M: Memory>(
         TokenKind::ImmediateName(span) => (NameKind::Immediate, *span),
         TokenKind::Integer(number) => {
             let number = *number;
-            return do_number(number, context, shared, memory, trial);
+            return do_number(number, context, runtime, attempt);
         }
-        TokenKind::Text(bytes) => return do_string(bytes, context, shared, memory, trial),
+        TokenKind::Text(bytes) => return do_string(bytes, context, runtime, attempt),
         TokenKind::Procedure(elements) => {
-            return do_procedure(elements, text, context, shared, memory, trial);
+            return do_procedure(elements, text, context, runtime, attempt);
         }
     };
     let name = span.of(text);
-    do_name(name_kind, name, operators, context, shared, memory, trial)
+    do_name(name_kind, name, operators, context, runtime, attempt)
 }

@@ -6,8 +6,8 @@ use Rattle.ps_mem.specs.Stands.{IsAddressed}
 use Rattle.ps_core_machine.specs.declared.events.Object.{Object}
 use Rattle.ps_core_machine.specs.declared.events.Vm.{Vm}
 use Rattle.ps_core_machine.specs.Objects.{object_at}
-use Rattle.ps_core_memory.specs.Memory.{heap_of, standing}
-use Rattle.ps_core_memory.specs.Shown.{VmRuns}
+use Rattle.ps_core_laws.specs.Memory.{heap_of, standing}
+use Rattle.ps_core_laws.specs.Shown.{VmRuns}
 use Rattle.ps_table.proofs.Facts.{vm_facts}
 
 -- what stands lies in the table, which is below 2^24 words

@@ -14,7 +14,7 @@ use Rattle.ps_core_machine.specs.Steps.{State, vm_after, gc_after, words_after}
 use Rattle.ps_core_machine.specs.Conditions.{Permitted}
 use Rattle.ps_core_laws.specs.Runs.{run, IsRun, IsSpace}
 use Rattle.ps_core_laws.proofs.Kept.{good}
-use Rattle.ps_core_memory.specs.Shown.{VmRuns, VmFinds}
+use Rattle.ps_core_laws.specs.Shown.{VmRuns, VmFinds}
 use Rattle.ps_table.specs.declared.plays.View.{View}
 use Rattle.ps_table.specs.Shown.{by_vm, by_gc, Fits, Shows, GcRuns, GcFinds, BothFind, BothRun, BothLook, VmDoes}
 use Rattle.ps_table.specs.Shown.{VmStores, GcDoes, GcStores, BothDo, longer, vm_did, gc_did, both_did, SeatState}

@@ -11,14 +11,14 @@ use Rattle.ps_core_machine.specs.declared.events.Vm.{Vm}
 use Rattle.ps_core_machine.specs.Conditions.{VmMay}
 use Rattle.ps_core_machine.specs.Steps.{field_stored, table_size}
 use Rattle.ps_core_laws.proofs.Lists.{get_some}
-use Rattle.ps_core_memory.specs.Memory.{heap_of}
-use Rattle.ps_core_memory.specs.Shown.{VmRuns, VmFinds}
-use Rattle.ps_core_memory.specs.Stores.{number_of, numbers, fields_stored, MayStoreFields, fields_stored_down}
-use Rattle.ps_core_memory.specs.Stores.{MayStoreFieldsDown}
-use Rattle.ps_core_memory.specs.Laws.{StaysAfterLoad, words_copied, word_at, CanCopy, CopiesWords}
-use Rattle.ps_core_memory.proofs.Copied.{copies}
-use Rattle.ps_core_memory.proofs.Loads.{field_loads}
-use Rattle.ps_core_memory.proofs.Stored.{stores}
+use Rattle.ps_core_laws.specs.Memory.{heap_of}
+use Rattle.ps_core_laws.specs.Shown.{VmRuns, VmFinds}
+use Rattle.ps_core_laws.specs.Stores.{number_of, numbers, fields_stored, MayStoreFields, fields_stored_down}
+use Rattle.ps_core_laws.specs.Stores.{MayStoreFieldsDown}
+use Rattle.ps_core_laws.specs.MemoryLaws.{StaysAfterLoad, words_copied, word_at, CanCopy, CopiesWords}
+use Rattle.ps_core_laws.proofs.Copied.{copies}
+use Rattle.ps_core_laws.proofs.Loads.{field_loads}
+use Rattle.ps_core_laws.proofs.Stored.{stores}
 use Rattle.ps_table.proofs.Facts.{words, vm_facts}
 
 -- ---- the words that are stored, one of them

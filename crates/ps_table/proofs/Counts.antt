@@ -5,7 +5,7 @@ use Rattle.std.specs.Prelude.{slice_set}
 use Rattle.ps_core_machine.specs.declared.events.Event.{Event}
 use Rattle.ps_core_machine.specs.declared.events.Event.TheVariants.{VmLoad}
 use Rattle.ps_core_machine.specs.declared.events.Vm.{Vm}
-use Rattle.ps_core_memory.specs.Shown.{VmFinds}
+use Rattle.ps_core_laws.specs.Shown.{VmFinds}
 use Rattle.ps_table.specs.declared.plays.View.{View}
 use Rattle.ps_table.specs.Events.{did_all, head_loads}
 use Rattle.ps_table.specs.Shown.{vm_did}

@@ -22,8 +22,8 @@ use Rattle.ps_core_laws.proofs.HeapTests.{bool_cases, le_is, le_true}
 use Rattle.ps_core_laws.proofs.Kept.{good}
 use Rattle.ps_core_laws.proofs.KeptFacts.{kept}
 use Rattle.ps_core_laws.proofs.LawFacts.{words_follow}
-use Rattle.ps_core_memory.specs.Shown.{VmRuns}
-use Rattle.ps_core_memory.proofs.Facts.{VmFacts, facts, part_knows}
+use Rattle.ps_core_laws.specs.Shown.{VmRuns}
+use Rattle.ps_core_laws.proofs.Facts.{VmFacts, facts, part_knows}
 
 -- ---- a run that is known to be there tells all that the run would tell
 

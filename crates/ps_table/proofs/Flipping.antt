@@ -19,14 +19,14 @@ use Rattle.ps_core_machine.specs.Conditions.{VmMay}
 use Rattle.ps_core_laws.specs.Runs.{run}
 use Rattle.ps_core_laws.proofs.Bases.{bases}
 use Rattle.ps_core_laws.proofs.HeapTests.{bool_cases, number_is, number_not, le_is}
-use Rattle.ps_core_memory.proofs.Facts.{VmFacts}
-use Rattle.ps_core_memory.specs.Memory.{is_shut}
+use Rattle.ps_core_laws.proofs.Facts.{VmFacts}
+use Rattle.ps_core_laws.specs.Memory.{is_shut}
 use Rattle.ps_table.specs.declared.mirror.Mirror.{Mirror}
 use Rattle.ps_table.specs.declared.plays.View.{View}
 use Rattle.ps_table.specs.Events.{gc_did_all, root_look}
 use Rattle.ps_table.specs.Mirrored.{Mirrors}
 use Rattle.ps_table.specs.Shown.{GcFinds, gc_did}
-use Rattle.ps_table.proofs.Originals.{Lawful, lawful, SecondTells, original, object_inside, original_inside}
+use Rattle.ps_table.proofs.Originals.{Lawful, lawful, original, object_inside}
 use Rattle.ps_table.proofs.Originals.{replica_inside, second_unknown, second_tells}
 
 -- ---- lists of events

@@ -9,9 +9,9 @@ use Rattle.ps_core_machine.specs.Objects.{closes, log_of}
 use Rattle.ps_core_machine.specs.Steps.{is_open}
 use Rattle.ps_core_laws.specs.Kept.{VmKnows}
 use Rattle.ps_core_laws.proofs.HeapTests.{bool_cases}
-use Rattle.ps_core_memory.specs.Laws.{SeesHead, seen}
-use Rattle.ps_core_memory.specs.Memory.{records_left}
-use Rattle.ps_core_memory.proofs.Room.{part_seen}
+use Rattle.ps_core_laws.specs.MemoryLaws.{SeesHead, seen}
+use Rattle.ps_core_laws.specs.Memory.{records_left}
+use Rattle.ps_core_laws.proofs.Room.{part_seen}
 
 -- a full ring takes no record
 pub full_left : (v : Vm) (slot : ℕ) → is_open v ≡ true → (HasRoom v slot → ⊥)

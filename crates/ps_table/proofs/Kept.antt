@@ -3,7 +3,7 @@ use Rattle.std.proofs.Common.{◌≡◌, ℕ, Bool, true, false, List, [], ◌�
 use Rattle.std.specs.Prelude.{if◌then◌else◌}
 use Rattle.ps_core_machine.specs.declared.events.Event.{Event}
 use Rattle.ps_core_machine.specs.declared.events.Vm.{Vm}
-use Rattle.ps_core_memory.specs.Shown.{VmRuns}
+use Rattle.ps_core_laws.specs.Shown.{VmRuns}
 use Rattle.ps_table.specs.declared.mirror.Mirror.{Mirror}
 use Rattle.ps_table.specs.declared.plays.View.{View}
 use Rattle.ps_table.specs.Events.{did_all, gc_did_all}

@@ -15,13 +15,13 @@ use Rattle.ps_core_machine.specs.declared.events.Vm.{Vm}
 use Rattle.ps_core_machine.specs.declared.events.Gc.{Gc}
 use Rattle.ps_core_machine.specs.Steps.{next_birth_after, vm_after}
 use Rattle.ps_core_laws.proofs.HeapTests.{number_not}
-use Rattle.ps_core_memory.specs.Laws.{MakesObject, MakesBody, header_of, header_told}
-use Rattle.ps_core_memory.specs.Memory.{heap_of, grants_of}
-use Rattle.ps_core_memory.specs.Shown.{VmRuns, VmFinds}
-use Rattle.ps_core_memory.proofs.Bodies.{makes_bodies}
-use Rattle.ps_core_memory.proofs.Loads.{header_loads, behind_heads, stays}
-use Rattle.ps_core_memory.proofs.Made.{not_body}
-use Rattle.ps_core_memory.proofs.Stored.{makes}
+use Rattle.ps_core_laws.specs.MemoryLaws.{MakesObject, MakesBody, header_of, header_told}
+use Rattle.ps_core_laws.specs.Memory.{heap_of, grants_of}
+use Rattle.ps_core_laws.specs.Shown.{VmRuns, VmFinds}
+use Rattle.ps_core_laws.proofs.Bodies.{makes_bodies}
+use Rattle.ps_core_laws.proofs.Loads.{header_loads, behind_heads, stays}
+use Rattle.ps_core_laws.proofs.Made.{not_body}
+use Rattle.ps_core_laws.proofs.Stored.{makes}
 use Rattle.ps_table.specs.declared.plays.View.{View}
 use Rattle.ps_table.specs.Events.{did_all, word_cleared, words_cleared}
 use Rattle.ps_table.specs.Shown.{SeatState, looked}

@@ -22,13 +22,13 @@ use Rattle.ps_core_machine.specs.Steps.{with_record}
 use Rattle.ps_core_laws.proofs.HeapTests.{bool_cases, le_true, le_is, eq_true, number_not}
 use Rattle.ps_core_laws.proofs.Headed.{stored_objects}
 use Rattle.ps_core_laws.proofs.Lookups.{object_at-with_field}
-use Rattle.ps_core_memory.specs.Memory.{grants_of, records_left}
-use Rattle.ps_core_memory.specs.Shown.{VmRuns}
-use Rattle.ps_core_memory.specs.Stores.{fields_stored, part_made}
-use Rattle.ps_core_memory.specs.Laws.{OpensCycle, ClosesLog, SeesHead, AfterClose, seen}
-use Rattle.ps_core_memory.proofs.Facts.{VmFacts}
-use Rattle.ps_core_memory.proofs.Logged.{part_logged, after_record, length_here, log_there}
-use Rattle.ps_core_memory.proofs.Written.{only}
+use Rattle.ps_core_laws.specs.Memory.{grants_of, records_left}
+use Rattle.ps_core_laws.specs.Shown.{VmRuns}
+use Rattle.ps_core_laws.specs.Stores.{fields_stored, part_made}
+use Rattle.ps_core_laws.specs.MemoryLaws.{OpensCycle, ClosesLog, SeesHead, AfterClose, seen}
+use Rattle.ps_core_laws.proofs.Facts.{VmFacts}
+use Rattle.ps_core_laws.proofs.Logged.{part_logged, after_record, length_here, log_there}
+use Rattle.ps_core_laws.proofs.Written.{only}
 use Rattle.ps_table.specs.declared.mirror.Mirror.{Mirror}
 use Rattle.ps_table.specs.Mirrored.{Mirrors, Sits}
 use Rattle.ps_table.specs.Shown.{SeatState, vm_did}

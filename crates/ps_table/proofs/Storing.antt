@@ -14,14 +14,14 @@ use Rattle.ps_core_machine.specs.Objects.{among, log_of}
 use Rattle.ps_core_machine.specs.Steps.{is_open, vm_after}
 use Rattle.ps_core_machine.specs.Conditions.{VmMay}
 use Rattle.ps_core_laws.proofs.HeapTests.{bool_cases, le_true, le_is, lt_is, lt_true, and_parts}
-use Rattle.ps_core_memory.specs.Memory.{heap_of, grants_of, records_left}
-use Rattle.ps_core_memory.specs.Shown.{VmRuns}
-use Rattle.ps_core_memory.specs.Stores.{numbers, fields_stored}
-use Rattle.ps_core_memory.specs.Laws.{CanStore, StoresWords, StoresRecord, logged}
-use Rattle.ps_core_memory.proofs.Facts.{VmFacts}
-use Rattle.ps_core_memory.proofs.Logged.{Target, target, length_numbers, Granted, granted}
-use Rattle.ps_core_memory.proofs.Stored.{stores, logs}
-use Rattle.ps_core_memory.proofs.Written.{only, new_same, old_after}
+use Rattle.ps_core_laws.specs.Memory.{heap_of, grants_of, records_left}
+use Rattle.ps_core_laws.specs.Shown.{VmRuns}
+use Rattle.ps_core_laws.specs.Stores.{numbers, fields_stored}
+use Rattle.ps_core_laws.specs.MemoryLaws.{CanStore, StoresWords, StoresRecord, logged}
+use Rattle.ps_core_laws.proofs.Facts.{VmFacts}
+use Rattle.ps_core_laws.proofs.Logged.{Target, target, length_numbers, Granted, granted}
+use Rattle.ps_core_laws.proofs.Stored.{stores, logs}
+use Rattle.ps_core_laws.proofs.Written.{only, new_same, old_after}
 use Rattle.ps_table.specs.declared.mirror.Mirror.{Mirror}
 use Rattle.ps_table.specs.declared.plays.View.{View}
 use Rattle.ps_table.specs.Events.{did_all, field_stores}

@@ -6,8 +6,8 @@ use Rattle.ps_core_machine.specs.declared.events.Object.{Object}
 use Rattle.ps_core_machine.specs.declared.events.Vm.{Vm}
 use Rattle.ps_core_machine.specs.Objects.{among, object_at, log_of}
 use Rattle.ps_core_machine.specs.Steps.{is_open, space_base, table_size}
-use Rattle.ps_core_memory.specs.Memory.{is_shut}
-use Rattle.ps_core_memory.specs.Shown.{VmRuns}
+use Rattle.ps_core_laws.specs.Memory.{is_shut}
+use Rattle.ps_core_laws.specs.Shown.{VmRuns}
 use Rattle.ps_table.specs.declared.mirror.Mirror.{Mirror}
 use Rattle.ps_table.specs.declared.plays.View.{View}
 use Rattle.ps_table.specs.Shown.{SeatState}

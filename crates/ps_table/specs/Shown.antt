@@ -21,7 +21,7 @@ use Rattle.ps_core_machine.specs.declared.events.Vm.{Vm}
 use Rattle.ps_core_machine.specs.declared.events.Gc.{Gc}
 use Rattle.ps_core_machine.specs.Steps.{start, vm_after, gc_after}
 use Rattle.ps_core_laws.specs.Runs.{run, IsRun, IsSpace}
-use Rattle.ps_core_memory.specs.Shown.{VmRuns, VmFinds}
+use Rattle.ps_core_laws.specs.Shown.{VmRuns, VmFinds}
 use Rattle.ps_table.specs.declared.plays.View.{View}
 
 -- ---- who makes an event: one seat, or both joined

@@ -16,7 +16,7 @@ ghost use Rattle.ps_core_machine.specs.Steps.{table_size, knows_open, replica_of
 ghost use Rattle.ps_core_laws.specs.Runs.{IsSpace};
 ghost use Rattle.ps_mem.specs.Heap.{empty_heap};
 ghost use Rattle.ps_mem.specs.Bounded.{bounded_space};
-ghost use Rattle.ps_core_memory.specs.Memory.{heap_of};
+ghost use Rattle.ps_core_laws.specs.Memory.{heap_of};
 ghost use Rattle.ps_table.specs.Mirrored.{Sits};
 ghost use Rattle.ps_table.specs.Shown.{BothRun, GcRuns, GcFinds, first_view, gc_did};
 

@@ -1,9 +1,9 @@
 //! Words copied from the fields of one object to those of another or of the same, one by one.
 ghost use Rattle.std.specs.Prelude.{◌≡◌, ◌+◌, ◌≤◌, true};
 ghost use Rattle.ps_core_machine.specs.Steps.{table_size};
-ghost use Rattle.ps_core_memory.specs.Shown.{VmRuns};
-ghost use Rattle.ps_core_memory.specs.Stores.{numbers, fields_stored};
-ghost use Rattle.ps_core_memory.specs.Laws.{CanCopy, words_copied};
+ghost use Rattle.ps_core_laws.specs.Shown.{VmRuns};
+ghost use Rattle.ps_core_laws.specs.Stores.{numbers, fields_stored};
+ghost use Rattle.ps_core_laws.specs.MemoryLaws.{CanCopy, words_copied};
 ghost use Rattle.ps_table.specs.Mirrored.{KeepsGc};
 
 use crate::plays::View;

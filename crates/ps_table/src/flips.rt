@@ -6,7 +6,7 @@ ghost use Rattle.ps_core_machine.specs.Conditions.{VmMay, GcMay};
 ghost use Rattle.ps_core_machine.specs.Objects.{end_of_replicas, renamed_value, value_has_replica};
 ghost use Rattle.ps_core_machine.specs.Objects.{values_have_replicas};
 ghost use Rattle.ps_core_machine.specs.Steps.{other_base, vm_after, gc_after};
-ghost use Rattle.ps_core_memory.specs.Stores.{numbers};
+ghost use Rattle.ps_core_laws.specs.Stores.{numbers};
 ghost use Rattle.ps_table.specs.Events.{gc_did_all, root_look, root_looks};
 ghost use Rattle.ps_table.specs.Mirrored.{Sits};
 ghost use Rattle.ps_table.specs.Shown.{both_did};

@@ -2,8 +2,8 @@
 ghost use Rattle.std.specs.Prelude.{◌≡◌, ℕ, true, false};
 ghost use Rattle.ps_core_machine.specs.declared.events.Event.TheVariants.{HandOver};
 ghost use Rattle.ps_core_machine.specs.Objects.{values_stand};
-ghost use Rattle.ps_core_memory.specs.Memory.{heap_of, grants_of};
-ghost use Rattle.ps_core_memory.specs.Stores.{numbers};
+ghost use Rattle.ps_core_laws.specs.Memory.{heap_of, grants_of};
+ghost use Rattle.ps_core_laws.specs.Stores.{numbers};
 ghost use Rattle.ps_table.specs.Mirrored.{Sits};
 ghost use Rattle.ps_table.specs.Shown.{BothDo};
 

@@ -4,7 +4,7 @@ ghost use Rattle.ps_core_machine.specs.declared.events.Event.TheVariants.{HandOv
 ghost use Rattle.ps_core_machine.specs.Conditions.{VmMay, GcMay};
 ghost use Rattle.ps_core_machine.specs.Objects.{values_stand};
 ghost use Rattle.ps_core_machine.specs.Steps.{table_size};
-ghost use Rattle.ps_core_memory.specs.Stores.{numbers};
+ghost use Rattle.ps_core_laws.specs.Stores.{numbers};
 ghost use Rattle.ps_table.specs.Shown.{BothDo, BothLook, both_sides, vm_side, gc_side};
 
 use crate::plays::{Flips, HandsOver, Looks, Naming, Parts, Spares, View};

@@ -49,5 +49,5 @@ pub use mirror::Mirror;
 pub use mutator::VmSeat;
 pub use plain_words::PlainWords;
 pub use plays::{Heap, View};
-pub use shared::Shared;
+pub use shared::SharedSeats;
 pub use words::{SharedTable, SharedWords, Words};

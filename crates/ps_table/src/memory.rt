@@ -11,7 +11,7 @@ ghost use Rattle.ps_mem.specs.Heap.{fields_at, has_room, made, made_body, object
 ghost use Rattle.ps_mem.specs.Heap.{standing_words, stored};
 ghost use Rattle.ps_mem.specs.References.{NamesStanding};
 ghost use Rattle.ps_core_machine.specs.declared.events.Event.TheVariants.{VmLoad};
-ghost use Rattle.ps_core_memory.specs.Memory.{heap_of, grants_of};
+ghost use Rattle.ps_core_laws.specs.Memory.{heap_of, grants_of};
 ghost use Rattle.ps_table.specs.Shown.{vm_did};
 
 use crate::mutator::VmSeat;

@@ -40,8 +40,8 @@ impl Mirror {
     ghost use Rattle.ps_core_machine.specs.Conditions.{HasRoom};
     ghost use Rattle.ps_core_machine.specs.Objects.{log_of};
     ghost use Rattle.ps_core_machine.specs.Steps.{start, is_open};
-    ghost use Rattle.ps_core_memory.specs.Memory.{heap_of, grants_of, records_left, is_shut};
-    ghost use Rattle.ps_core_memory.specs.Shown.{VmRuns};
+    ghost use Rattle.ps_core_laws.specs.Memory.{heap_of, grants_of, records_left, is_shut};
+    ghost use Rattle.ps_core_laws.specs.Shown.{VmRuns};
     ghost use Rattle.ps_table.specs.Mirrored.{Mirrors};
 
     /// The numbers of the machine's start, over spaces of so many words each.

@@ -3,9 +3,9 @@ ghost use Rattle.std.specs.Prelude.{◌≡◌, ◌≢◌, ◌<◌, ◌≤◌, �
 ghost use Rattle.ps_word.specs.Headers.{fields_in};
 ghost use Rattle.ps_mem.specs.Heap.{AfterNew, IsKind, birth_at, made, made_body, object_at};
 ghost use Rattle.ps_core_machine.specs.Steps.{table_size, next_birth_after};
-ghost use Rattle.ps_core_memory.specs.Memory.{heap_of, grants_of};
-ghost use Rattle.ps_core_memory.specs.Laws.{MayMake};
-ghost use Rattle.ps_core_memory.specs.Stores.{part_made};
+ghost use Rattle.ps_core_laws.specs.Memory.{heap_of, grants_of};
+ghost use Rattle.ps_core_laws.specs.MemoryLaws.{MayMake};
+ghost use Rattle.ps_core_laws.specs.Stores.{part_made};
 ghost use Rattle.ps_table.specs.Events.{did_all, object_made};
 ghost use Rattle.ps_table.specs.Mirrored.{Sits, KeepsGc};
 

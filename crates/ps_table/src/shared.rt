@@ -3,7 +3,7 @@ ghost use Rattle.std.specs.Prelude.{◌≡◌, IfOk};
 ghost use Rattle.ps_mem.specs.Heap.{empty_heap};
 ghost use Rattle.ps_mem.specs.Bounded.{bounded_space};
 ghost use Rattle.ps_core_laws.specs.Runs.{IsSpace};
-ghost use Rattle.ps_core_memory.specs.Memory.{heap_of};
+ghost use Rattle.ps_core_laws.specs.Memory.{heap_of};
 ghost use Rattle.ps_table.specs.Shown.{vm_side, gc_side, first_view};
 
 use crate::collector::GcSeat;
@@ -15,9 +15,9 @@ use std::alloc::{AllocError, Global};
 use std::sync::Arc;
 
 /// The table that the two seats share. Only `new` gives seats.
-pub struct Shared;
+pub struct SharedSeats;
 
-impl Shared {
+impl SharedSeats {
     /// Two spaces of so many words each, 4096 to 1048576, in which nothing stands, and the two
     /// seats, each with its part of the machine's start. `AllocError`: the allocator refused.
     pub fn new(alloc: Global, space: u32) -> Result<(VmSeat, GcSeat), AllocError>

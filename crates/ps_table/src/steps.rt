@@ -6,7 +6,7 @@ ghost use Rattle.ps_core_machine.specs.declared.events.Event.TheVariants.{Record
 ghost use Rattle.ps_core_machine.specs.Conditions.{CanClear, VmMay};
 ghost use Rattle.ps_core_machine.specs.Objects.{log_of};
 ghost use Rattle.ps_core_machine.specs.Steps.{table_size};
-ghost use Rattle.ps_core_memory.specs.Shown.{VmRuns};
+ghost use Rattle.ps_core_laws.specs.Shown.{VmRuns};
 ghost use Rattle.ps_table.specs.Shown.{VmDoes, VmStores, looked};
 
 use crate::plays::{

@@ -8,8 +8,8 @@ ghost use Rattle.ps_core_machine.specs.Conditions.{VmMay};
 ghost use Rattle.ps_core_machine.specs.Objects.{log_of};
 ghost use Rattle.ps_core_machine.specs.Steps.{table_size};
 ghost use Rattle.ps_core_machine.specs.declared.events.Event.TheVariants.{RecordStore};
-ghost use Rattle.ps_core_memory.specs.Memory.{heap_of, grants_of};
-ghost use Rattle.ps_core_memory.specs.Shown.{VmRuns};
+ghost use Rattle.ps_core_laws.specs.Memory.{heap_of, grants_of};
+ghost use Rattle.ps_core_laws.specs.Shown.{VmRuns};
 ghost use Rattle.ps_table.specs.Shown.{vm_did};
 ghost use Rattle.ps_table.specs.Mirrored.{Sits, KeepsGc, owes, mirror_stored};
 

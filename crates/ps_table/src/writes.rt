@@ -2,9 +2,9 @@
 ghost use Rattle.std.specs.Prelude.{◌≡◌, ◌+◌, ◌≤◌, ◌<◌, ℕ, List, true, length};
 ghost use Rattle.ps_core_machine.specs.Conditions.{CanClear};
 ghost use Rattle.ps_core_machine.specs.Steps.{table_size};
-ghost use Rattle.ps_core_memory.specs.Shown.{VmRuns};
-ghost use Rattle.ps_core_memory.specs.Stores.{numbers, MayStoreFields, part_made};
-ghost use Rattle.ps_core_memory.specs.Laws.{MayMake};
+ghost use Rattle.ps_core_laws.specs.Shown.{VmRuns};
+ghost use Rattle.ps_core_laws.specs.Stores.{numbers, MayStoreFields, part_made};
+ghost use Rattle.ps_core_laws.specs.MemoryLaws.{MayMake};
 ghost use Rattle.ps_table.specs.Events.{did_all, field_stores, object_made, word_cleared};
 
 use crate::plays::View;

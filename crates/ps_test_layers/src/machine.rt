@@ -25,15 +25,15 @@ fn text_of(answer: Result<(), Refused>) -> &'static str {
 
 /// A run of the machine.
 #[derive(Drop)]
-pub struct Machine {
+pub struct CoreRun {
     alloc: Global,
     core: Core,
 }
 
-impl Machine {
+impl CoreRun {
     /// On two spaces of 4,096 words each.
-    pub fn new(alloc: Global) -> Result<Machine, AllocError> {
-        Ok(Machine {
+    pub fn new(alloc: Global) -> Result<CoreRun, AllocError> {
+        Ok(CoreRun {
             alloc,
             core: Core::new(alloc, 4096)?,
         })

@@ -21,7 +21,7 @@ mod speed;
 mod tokens;
 
 use anyhow::{Result, bail};
-use machine::{Machine, number_of};
+use machine::{CoreRun, number_of};
 use named::Named;
 use ps_core::law;
 use std::env;
@@ -29,7 +29,7 @@ use std::hash::RandomState;
 use std::io::Read;
 
 /// Whether a row is so.
-fn is_so(rt: &HostRuntime, machine: &mut Machine, named: &mut Named, row: &str) -> Result<bool> {
+fn is_so(rt: &HostRuntime, machine: &mut CoreRun, named: &mut Named, row: &str) -> Result<bool> {
     let (name, rest) = row.split_once(' ').unwrap_or((row, ""));
     match name {
         "tokens" => return tokens::has_tokens(rt.alloc(), rest),
@@ -48,7 +48,7 @@ fn is_so(rt: &HostRuntime, machine: &mut Machine, named: &mut Named, row: &str) 
 
 /// Plays each row of the input; an empty line, and one behind `#`, is none.
 fn play(rt: &HostRuntime) -> Result<()> {
-    let mut machine = Machine::new(rt.alloc())?;
+    let mut machine = CoreRun::new(rt.alloc())?;
     let mut named = Named::new(rt.alloc(), RandomState::new(rt)?);
     let mut count: u64 = 0;
     for line in rt.lines(rt.alloc()) {

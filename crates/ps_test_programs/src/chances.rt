@@ -1,9 +1,9 @@
 //! A program of many contexts under other turns, and under schedules by chance.
 
-use crate::fakes::{deeds_in, steps_in};
+use crate::fakes::{job_of, task_of};
 use crate::rows::Verdict;
 use crate::runs::CONFIG;
-use ps_vault::{Config, Entry, Outcome, RunFault, Setup, replay, run_plain};
+use ps_vault::{Config, Entry, Outcome, RunFault, replay, run_plain};
 use std::alloc::{AllocError, Global};
 use std::hash::RandomState;
 
@@ -61,14 +61,7 @@ fn turned(
     quantum: u32,
 ) -> Verdict {
     let config = Config { quantum, ..CONFIG };
-    match run_plain(
-        alloc,
-        steps_in(alloc),
-        deeds_in(alloc),
-        program,
-        config,
-        keys,
-    ) {
+    match run_plain(alloc, job_of(alloc, keys, program, config)) {
         Err(RunFault::Memory) => Verdict::WantsMemory,
         Err(RunFault::Config) => Verdict::Different,
         Ok(report) => verdict_of(report.outcome, report.printed.as_slice(), wanted),
@@ -80,14 +73,7 @@ fn chanced(alloc: Global, keys: RandomState, program: &[u8], wanted: &[u8], seed
     let Ok(schedule) = by_chance(alloc, seed) else {
         return Verdict::WantsMemory;
     };
-    match replay(
-        alloc,
-        steps_in(alloc),
-        deeds_in(alloc),
-        program,
-        schedule.as_slice(),
-        Setup::unbounded(keys),
-    ) {
+    match replay(alloc, task_of(alloc, keys, program), schedule.as_slice()) {
         Err(_) => Verdict::WantsMemory,
         Ok(report) => verdict_of(report.outcome, report.printed.as_slice(), wanted),
     }

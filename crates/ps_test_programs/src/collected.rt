@@ -1,13 +1,11 @@
 //! A program in a space that is collected, by some numbers of workers: with a collector on a thread of
 //! its own, and with one that works between steps.
 
-use crate::fakes::{deeds_in, steps_in};
+use crate::fakes::job_of;
 use crate::rows::Verdict;
 use crate::runs::{CONFIG, again};
-use ps_ctx_operators::operators::WorldOperators;
-use ps_ops::operators::Operators;
-use ps_run_workers::{Gate, Job, run, run_gated, run_serial};
-use ps_step::steps::Steps;
+use ps_run::System;
+use ps_run_workers::{Gate, run, run_gated, run_serial};
 use ps_vault::{Config, Outcome, Report, RunFault};
 use std::alloc::Global;
 use std::hash::RandomState;
@@ -121,12 +119,8 @@ impl Gate for Seen {
 /// Whether the program prints this in the space, which is exchanged at least so often, and prints the
 /// same again under the schedule of each run: by each number of workers beside a collector's thread,
 /// and by four with a collector that works between steps.
-pub fn worked<R: Threads + Wait + Sync>(
-    rt: &R,
-    alloc: Global,
-    keys: RandomState,
-    wanted: Wanted<'_>,
-) -> Verdict {
+pub fn worked<R: Threads + Wait + Sync>(system: System<'_, R>, wanted: Wanted<'_>) -> Verdict {
+    let System { rt, alloc, keys } = system;
     let mut verdict = Verdict::Same;
     for workers in WORKERS {
         let job = job_of(alloc, keys, wanted.program, wanted.config(workers));
@@ -142,20 +136,4 @@ pub fn worked<R: Threads + Wait + Sync>(
     let job = job_of(alloc, keys, wanted.program, wanted.config(CONFIG.workers));
     let told = run_serial(rt, alloc, job);
     verdict.and(wanted.judge(alloc, keys, told, true))
-}
-
-/// The run of a program by the whole language.
-pub fn job_of<'a>(
-    alloc: Global,
-    keys: RandomState,
-    program: &'a [u8],
-    config: Config,
-) -> Job<'a, Steps<Operators>, WorldOperators> {
-    Job {
-        interpret: steps_in(alloc),
-        deeds: deeds_in(alloc),
-        program,
-        config,
-        keys,
-    }
 }

@@ -1,9 +1,8 @@
 //! The program over files and outputs in memory.
 
-use crate::fakes::{Files, Output, deeds_in, steps_in};
-use ps_run::{ErrorOutput, Flushed, NoProgress, drive};
+use crate::fakes::{Files, LimitedOutput, makers_in};
+use ps_run::{ErrorOutput, Flushed, NoProgress, System, drive};
 use std::alloc::{AllocError, Global};
-use std::hash::RandomState;
 use std::sync::Wait;
 use std::thread::Threads;
 
@@ -40,30 +39,26 @@ pub struct Given {
 /// What a run over these files gives, by threads of `rt`; the output has room for so many bytes from
 /// its start. The keys are for the tables of names alone. Fails where that room can't be had.
 pub fn driven<R: Threads + Wait + Sync>(
-    rt: &R,
-    alloc: Global,
-    keys: RandomState,
+    system: System<'_, R>,
     words: &[&str],
     files: &mut Files<'_>,
     writes: Writes,
     room: usize,
 ) -> Result<Given, AllocError> {
-    let mut output = Output::new(alloc, writes.out);
+    let alloc = system.alloc;
+    let mut output = LimitedOutput::new(alloc, writes.out);
     output.bytes.reserve(room)?;
-    let mut err = ErrorOutput::new(Output::new(alloc, writes.err), NoProgress);
+    let mut err = ErrorOutput::new(LimitedOutput::new(alloc, writes.err), NoProgress);
     let (status, out) = drive(
-        rt,
-        alloc,
-        steps_in(alloc),
-        deeds_in(alloc),
-        keys,
+        system,
+        makers_in(alloc),
         words,
         files,
         Flushed::new(output),
         &mut err,
     );
-    let Output { bytes: printed, .. } = out.into_inner();
-    let Output { bytes: told, .. } = err.into_inner();
+    let LimitedOutput { bytes: printed, .. } = out.into_inner();
+    let LimitedOutput { bytes: told, .. } = err.into_inner();
     Ok(Given {
         status,
         out: printed,

@@ -6,11 +6,14 @@ ghost use Rattle.std.specs.Io.KnownBytes.{WriteAppends, Keeps};
 ghost use Rattle.ps_run.specs.Parts.{ReadsNext};
 ghost use Rattle.ps_test_programs.specs.Fakes.{bytes_in, known_in};
 
+use ps_ctx::makers::Makers;
 use ps_ctx_operators::operators::WorldOperators;
 use ps_ops::operators::Operators;
 use ps_run::{FileSet, ReadFault, WriteFault};
 use ps_step::steps::Steps;
+use ps_vault::{Config, Job, Setup, Task};
 use std::alloc::Global;
+use std::hash::RandomState;
 use std::io::{self, ErrorKind, Write};
 
 /// Who makes the steps of a context by the whole language.
@@ -21,9 +24,40 @@ pub fn steps_in(alloc: Global) -> Steps<Operators> {
     }
 }
 
-/// Who does the operators on contexts.
-pub fn deeds_in(alloc: Global) -> WorldOperators {
-    WorldOperators { alloc }
+/// Who makes the steps of a run by the whole language.
+pub fn makers_in(alloc: Global) -> Makers<Steps<Operators>, WorldOperators> {
+    Makers {
+        steps: steps_in(alloc),
+        operators: WorldOperators { alloc },
+    }
+}
+
+/// A program to be run by the whole language, with no bound on what it prints.
+pub fn task_of<'a>(
+    alloc: Global,
+    keys: RandomState,
+    program: &'a [u8],
+) -> Task<'a, Steps<Operators>, WorldOperators> {
+    Task {
+        makers: makers_in(alloc),
+        program,
+        setup: Setup::unbounded(keys),
+    }
+}
+
+/// The run of a program by the whole language.
+pub fn job_of<'a>(
+    alloc: Global,
+    keys: RandomState,
+    program: &'a [u8],
+    config: Config,
+) -> Job<'a, Steps<Operators>, WorldOperators> {
+    Job {
+        makers: makers_in(alloc),
+        program,
+        config,
+        keys,
+    }
 }
 
 /// The program's file `f` and a schedule's file `s`, which is `s.2` too, each with its bytes or a
@@ -159,18 +193,18 @@ impl FileSet for Files<'_> {
 
 /// An output that takes so many writes and flushes, and refuses those after them.
 #[derive(Drop)]
-pub struct Output {
+pub struct LimitedOutput {
     pub bytes: Vec<u8>,
     pub writes_left: u32,
 }
 
-impl Output {
+impl LimitedOutput {
     /// An output with nothing in it.
-    pub fn new(alloc: Global, writes_left: u32) -> Output
+    pub fn new(alloc: Global, writes_left: u32) -> LimitedOutput
         ensures bytes { result.bytes.items ≡ [] }
         ensures writes { result.writes_left ≡ writes_left }
     {
-        Output {
+        LimitedOutput {
             bytes: Vec::new(alloc),
             writes_left,
         }
@@ -191,7 +225,7 @@ impl Output {
     }
 }
 
-impl Write for Output {
+impl Write for LimitedOutput {
     ghost contents = { λ output. Some output.bytes.items };
 
     fn write(&mut self, bytes: &[u8]) -> io::Result<usize>

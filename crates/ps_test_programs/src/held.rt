@@ -1,12 +1,12 @@
 //! A log that is closed between two steps.
 
-use crate::fakes::{deeds_in, steps_in};
+use crate::fakes::task_of;
 use crate::rows::Verdict;
 use crate::runs::CONFIG;
 use ps_gc::{Inside, SerialSpaces};
 use ps_mem::Slot;
 use ps_ops_operands::failure::NotMade;
-use ps_vault::{ANY_ENTRIES, Closing, Config, Room, Roots, Setup, Told, Vault};
+use ps_vault::{ANY_ENTRIES, Closing, Config, Room, RootList, Told, Vault};
 use std::alloc::{AllocError, Global};
 use std::hash::RandomState;
 
@@ -31,15 +31,11 @@ pub fn held_up(
         return Ok(Verdict::Different);
     }
     let memory = SerialSpaces::new(alloc, space)?;
-    let mut roots = Roots::new(alloc)?;
-    let (steps, deeds) = (steps_in(alloc), deeds_in(alloc));
+    let mut roots = RootList::new(alloc)?;
     let mut vault = Vault::new(
         alloc,
         memory,
-        steps,
-        deeds,
-        program,
-        Setup::unbounded(keys),
+        task_of(alloc, keys, program),
         Room {
             first: 4,
             most: ANY_ENTRIES,

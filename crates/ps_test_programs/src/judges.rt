@@ -2,10 +2,10 @@
 
 use crate::cases::{Call, Case, Wanted};
 use crate::driven::{ALL_WRITES, AMPLE, Given, MEMORY, STEPS_OUT, Writes, driven};
-use crate::fakes::{Files, deeds_in, steps_in};
+use crate::fakes::{Files, job_of, task_of};
 use crate::runs::entries_of;
-use ps_run::ReadFault;
-use ps_vault::{Config, Entry, Outcome, RunFault, Setup, replay, run_plain};
+use ps_run::{ReadFault, System};
+use ps_vault::{Config, Entry, Outcome, RunFault, replay, run_plain};
 use std::alloc::{AllocError, Global};
 use std::hash::RandomState;
 use std::sync::Wait;
@@ -63,17 +63,13 @@ fn writes_in(faults: u32, run: u32) -> u32 {
 
 impl Case<'_> {
     /// Fails where the case is not as it says. The keys are for the tables of names alone.
-    pub fn judge<R: Threads + Wait + Sync>(
-        &self,
-        rt: &R,
-        alloc: Global,
-        keys: RandomState,
-    ) -> Result<(), Amiss> {
+    pub fn judge<R: Threads + Wait + Sync>(&self, system: System<'_, R>) -> Result<(), Amiss> {
+        let System { alloc, keys, .. } = system;
         match &self.call {
             Call::Words(words) => {
                 let words: Vec<&str> = words.split_whitespace().collect(alloc)?;
-                self.judge_words(rt, alloc, keys, words.as_slice())?;
-                self.judge_record(rt, alloc, keys)
+                self.judge_words(system, words.as_slice())?;
+                self.judge_record(system)
             }
             Call::Entries(entries) => self.judge_entries(alloc, keys, entries.as_slice()),
             Call::Numbers(numbers) => self.judge_numbers(alloc, keys, *numbers),
@@ -83,14 +79,12 @@ impl Case<'_> {
     /// Fails where a run by these words isn't so, with each number of writes to the output.
     fn judge_words<R: Threads + Wait + Sync>(
         &self,
-        rt: &R,
-        alloc: Global,
-        keys: RandomState,
+        system: System<'_, R>,
         words: &[&str],
     ) -> Result<(), Amiss> {
         for run in 0..self.out_faults.max(1) {
             let out = writes_in(self.out_faults, run);
-            self.judge_output(rt, alloc, keys, words, out)?;
+            self.judge_output(system, words, out)?;
         }
         Ok(())
     }
@@ -99,15 +93,13 @@ impl Case<'_> {
     /// of writes to the error output.
     fn judge_output<R: Threads + Wait + Sync>(
         &self,
-        rt: &R,
-        alloc: Global,
-        keys: RandomState,
+        system: System<'_, R>,
         words: &[&str],
         out: u32,
     ) -> Result<(), Amiss> {
         for run in 0..self.err_faults.max(1) {
             let err = writes_in(self.err_faults, run);
-            self.judge_run(rt, alloc, keys, words, Writes { out, err })?;
+            self.judge_run(system, words, Writes { out, err })?;
         }
         Ok(())
     }
@@ -115,15 +107,14 @@ impl Case<'_> {
     /// Fails where a run by these words isn't so, with so many writes.
     fn judge_run<R: Threads + Wait + Sync>(
         &self,
-        rt: &R,
-        alloc: Global,
-        keys: RandomState,
+        system: System<'_, R>,
         words: &[&str],
         writes: Writes,
     ) -> Result<(), Amiss> {
+        let System { alloc, .. } = system;
         let mut files = Files::new(alloc, bytes_in(&self.program), bytes_in(&self.schedule));
         files.takes_writes = self.takes_writes;
-        let given = driven(rt, alloc, keys, words, &mut files, writes, ROOM)?;
+        let given = driven(system, words, &mut files, writes, ROOM)?;
         self.judge_ended(&given, self.status)?;
         let tells = self.told.is(given.err.as_slice(), self.err_faults > 0);
         expect(tells, "told")?;
@@ -131,18 +122,14 @@ impl Case<'_> {
     }
 
     /// Fails where a run that follows the record of a case isn't so.
-    fn judge_record<R: Threads + Wait + Sync>(
-        &self,
-        rt: &R,
-        alloc: Global,
-        keys: RandomState,
-    ) -> Result<(), Amiss> {
+    fn judge_record<R: Threads + Wait + Sync>(&self, system: System<'_, R>) -> Result<(), Amiss> {
+        let System { alloc, .. } = system;
         let Some(Wanted::Exactly(record)) = &self.record else {
             return Ok(());
         };
         let mut files = Files::new(alloc, bytes_in(&self.program), Ok(record.as_slice()));
         let words = ["--replay", "s", "f"];
-        let given = driven(rt, alloc, keys, &words, &mut files, ALL_WRITES, ROOM)?;
+        let given = driven(system, &words, &mut files, ALL_WRITES, ROOM)?;
         // Behind the steps of a run that wanted memory, a context could go on.
         let status = if self.status == MEMORY {
             STEPS_OUT
@@ -178,12 +165,11 @@ impl Case<'_> {
         keys: RandomState,
         entries: &[Entry],
     ) -> Result<(), Amiss> {
-        let (steps, deeds) = (steps_in(alloc), deeds_in(alloc));
         let Ok(program) = bytes_in(&self.program) else {
             return Err(Amiss::Differs("program"));
         };
-        let setup = Setup::unbounded(keys);
-        let Ok(report) = replay(alloc, steps, deeds, program, entries, setup) else {
+        let task = task_of(alloc, keys, program);
+        let Ok(report) = replay(alloc, task, entries) else {
             return Err(Amiss::WantsMemory);
         };
         let given = Given {
@@ -205,8 +191,7 @@ impl Case<'_> {
         keys: RandomState,
         numbers: Config,
     ) -> Result<(), Amiss> {
-        let (steps, deeds) = (steps_in(alloc), deeds_in(alloc));
-        let told = run_plain(alloc, steps, deeds, b"", numbers, keys);
+        let told = run_plain(alloc, job_of(alloc, keys, b"", numbers));
         expect(matches!(told, Err(RunFault::Config)), "numbers")
     }
 }

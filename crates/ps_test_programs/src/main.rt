@@ -26,6 +26,7 @@ mod runs;
 use anyhow::{Result, bail};
 use cases::Case;
 use judges::Amiss;
+use ps_run::System;
 use rows::Verdict;
 use std::hash::RandomState;
 use std::sync::Wait;
@@ -40,16 +41,15 @@ struct Tally {
 }
 
 impl Tally {
-    /// Runs a row, by threads of `workers`. Fails where it can't be printed that it differs.
+    /// Runs a row, by the threads of a system. Fails where it can't be printed that it differs.
     fn row<R: Threads + Wait + Sync>(
         &mut self,
         rt: &HostRuntime,
-        workers: &R,
-        keys: RandomState,
+        system: System<'_, R>,
         row: &str,
     ) -> Result<()> {
         self.rows = self.rows.wrapping_add(1);
-        match rows::verdict_of(workers, rt.alloc(), keys, row) {
+        match rows::verdict_of(system, row) {
             Ok(Verdict::Same) => {}
             Ok(Verdict::Different) => println!(rt; "differs: {row}")?,
             Ok(Verdict::WantsMemory) | Err(_) => self.wanting = self.wanting.wrapping_add(1),
@@ -57,13 +57,12 @@ impl Tally {
         Ok(())
     }
 
-    /// Runs the case of these lines, where there are any, by threads of `workers`. Fails where it
+    /// Runs the case of these lines, where there are any, by the threads of a system. Fails where it
     /// can't be printed that it differs.
     fn case<R: Threads + Wait + Sync>(
         &mut self,
         rt: &HostRuntime,
-        workers: &R,
-        keys: RandomState,
+        system: System<'_, R>,
         lines: &[String],
     ) -> Result<()> {
         if lines.is_empty() {
@@ -71,7 +70,7 @@ impl Tally {
         }
         self.cases = self.cases.wrapping_add(1);
         let judged = match Case::read(rt.alloc(), lines)? {
-            Some(case) => case.judge(workers, rt.alloc(), keys),
+            Some(case) => case.judge(system),
             None => Err(Amiss::Differs("lines")),
         };
         match judged {
@@ -91,7 +90,11 @@ impl Tally {
 /// Runs each row and case in turn. Fails where the keys of the tables of names can't be had, and
 /// where one wanted memory, when all have run.
 fn main(rt: HostRuntime) -> Result<()> {
-    let keys = RandomState::new(&rt)?;
+    let system = System {
+        rt: &rt,
+        alloc: rt.alloc(),
+        keys: RandomState::new(&rt)?,
+    };
     let mut tally = Tally {
         rows: 0,
         cases: 0,
@@ -101,15 +104,15 @@ fn main(rt: HostRuntime) -> Result<()> {
     for line in rt.lines(rt.alloc()) {
         let line = line?;
         if line.is_empty() {
-            tally.case(&rt, &rt, keys, lines.as_slice())?;
+            tally.case(&rt, system, lines.as_slice())?;
             lines.clear();
         } else if line.contains('\t') {
-            tally.row(&rt, &rt, keys, line.as_str())?;
+            tally.row(&rt, system, line.as_str())?;
         } else if !line.starts_with('#') {
             lines.push(line)?;
         }
     }
-    tally.case(&rt, &rt, keys, lines.as_slice())?;
+    tally.case(&rt, system, lines.as_slice())?;
     let Tally {
         rows,
         cases,

@@ -1,10 +1,10 @@
 //! A run whose collector copies while a worker stands in the middle of a store.
 
-use crate::collected::{Wanted, job_of};
+use crate::collected::Wanted;
+use crate::fakes::job_of;
 use crate::rows::Verdict;
+use ps_run::System;
 use ps_run_workers::{Gate, run_gated};
-use std::alloc::Global;
-use std::hash::RandomState;
 use std::sync::Wait;
 use std::sync::atomic::{AtomicU64, Ordering};
 use std::thread::Threads;
@@ -83,11 +83,10 @@ impl Gate for Meeting {
 /// Whether the collector copies while a worker stands in the middle of an operator, by one worker and
 /// by four, and the program prints this.
 pub fn collector_copies_while_a_put_is_half_done<R: Threads + Wait + Sync>(
-    rt: &R,
-    alloc: Global,
-    keys: RandomState,
+    system: System<'_, R>,
     wanted: Wanted<'_>,
 ) -> Verdict {
+    let System { rt, alloc, keys } = system;
     let mut verdict = Verdict::Same;
     for workers in [1, 4] {
         let job = job_of(alloc, keys, wanted.program, wanted.config(workers));

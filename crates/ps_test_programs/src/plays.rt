@@ -12,7 +12,7 @@ use ps_mem::bounded::BoundedMemory;
 use ps_mem::{Memory, Slot};
 use ps_ops::operators::Operators;
 use ps_ops_operands::failure::NotMade;
-use ps_ops_state::lent::Trial;
+use ps_ops_state::lent::{Attempt, Runtime};
 use ps_step::steps::Steps;
 use ps_step_interpreter::interpreter::Interpreter;
 use std::alloc::{AllocError, Global};
@@ -31,7 +31,7 @@ const MOST_STEPS: u32 = 100000;
 
 /// The log of the slot before the first step.
 #[derive(Clone, Copy, Debug, PartialEq, Eq)]
-pub enum Log {
+pub enum StartingLog {
     /// No cycle is open, so no record is put.
     Idle,
     /// A cycle is open, and the log has no free place.
@@ -44,8 +44,8 @@ pub enum Log {
 #[derive(Drop)]
 pub struct Play<'a> {
     alloc: Global,
-    memory: BoundedMemory,
-    context: Interpreter<'a>,
+    runtime: Runtime<'a, BoundedMemory>,
+    context: Interpreter,
     steps: Steps<Operators>,
 }
 
@@ -55,10 +55,10 @@ impl<'a> Model for Play<'a> {
 
     ghost Value = { Playing };
 
-    ghost view = { λ p. record { memory = p.memory; context = p.context } };
+    ghost view = { λ p. record { runtime = p.runtime; context = p.context } };
 
-    ghost invariant = { λ p. IsSteady (held_over (⟦<BoundedMemory as Memory>⟧.heap p.memory)
-        (⟦<BoundedMemory as Memory>⟧.grants p.memory) p.context) };
+    ghost invariant = { λ p. IsSteady (held_over ⟦<BoundedMemory as Memory>⟧.heap
+        ⟦<BoundedMemory as Memory>⟧.grants p.runtime p.context) };
 }
 
 impl<'a> Play<'a> {
@@ -72,18 +72,22 @@ impl<'a> Play<'a> {
     ) -> Result<Play<'a>, AllocError>
         requires { size < 2 ^ 24 }
         ensures { IfOk result (λ play. IsAt
-            (held_over (⟦<BoundedMemory as Memory>⟧.heap play.memory)
-            (⟦<BoundedMemory as Memory>⟧.grants play.memory) play.context)
+            (held_over ⟦<BoundedMemory as Memory>⟧.heap ⟦<BoundedMemory as Memory>⟧.grants
+            play.runtime play.context)
             (first_machine program.now)) }
     {
         let mut memory = BoundedMemory::new(alloc, size)?;
-        let Ok(context) = Interpreter::new(alloc, &mut memory, program, Setup::unbounded(keys))
-        else {
+        let Ok((context, shared)) = Interpreter::new(
+            alloc,
+            &mut memory,
+            program,
+            Setup::unbounded(keys),
+        ) else {
             return Err(AllocError);
         };
         Ok(Play {
             alloc,
-            memory,
+            runtime: Runtime { shared, memory },
             context,
             steps: steps_in(alloc),
         })
@@ -92,16 +96,16 @@ impl<'a> Play<'a> {
 
 impl Play<'_> {
     /// Opens a cycle, and fills or closes the log.
-    fn begin(&mut self, log: Log) {
+    fn begin(&mut self, log: StartingLog) {
         match log {
-            Log::Idle => {}
-            Log::Full => {
-                self.memory.open_cycle();
-                self.memory.leave(Slot::of(SLOT), 0);
+            StartingLog::Idle => {}
+            StartingLog::Full => {
+                self.runtime.memory.open_cycle();
+                self.runtime.memory.leave(Slot::of(SLOT), 0);
             }
-            Log::Closed => {
-                self.memory.open_cycle();
-                self.memory.close(Slot::of(SLOT));
+            StartingLog::Closed => {
+                self.runtime.memory.open_cycle();
+                self.runtime.memory.close(Slot::of(SLOT));
             }
         }
     }
@@ -109,8 +113,8 @@ impl Play<'_> {
     /// Makes way for a step that was not made: the log is drained, or the cycle ends.
     fn make_way(&mut self, reason: NotMade) {
         match reason {
-            NotMade::LogFull => self.memory.leave(Slot::of(SLOT), DRAINED),
-            NotMade::LogClosed => self.memory.end_cycle(),
+            NotMade::LogFull => self.runtime.memory.leave(Slot::of(SLOT), DRAINED),
+            NotMade::LogClosed => self.runtime.memory.end_cycle(),
             NotMade::NeedSpace(_) | NotMade::Memory => {}
         }
     }
@@ -120,17 +124,18 @@ impl Play<'_> {
         if !self.context.has_steps() {
             return Ok(());
         }
-        let trial = Trial {
+        let attempt = Attempt {
             slot: Slot::of(SLOT),
             refused,
         };
-        self.context.step(&mut self.steps, &mut self.memory, trial)
+        self.context
+            .step(&mut self.steps, &mut self.runtime, attempt)
     }
 
     /// Makes steps to the end of the context. Tells why a step was not made, and makes it then:
     /// refused where it needs space, or when there is way for its records; and what was printed
     /// comes last. Fails for want of memory.
-    pub fn transcript(self, log: Log) -> Result<Vec<u8>> {
+    pub fn transcript(self, log: StartingLog) -> Result<Vec<u8>> {
         let mut play = self;
         let mut told = Vec::new(play.alloc);
         let mut refused = false;
@@ -149,8 +154,7 @@ impl Play<'_> {
                 }
             }
         }
-        let Play { context, .. } = play;
-        told.extend_from_slice(context.into_printed().as_slice())?;
+        told.extend_from_slice(play.runtime.shared.printed.as_slice())?;
         Ok(told)
     }
 }

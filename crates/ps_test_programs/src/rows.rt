@@ -20,11 +20,11 @@ use crate::chances::scheduled;
 use crate::collected::{MANY, Wanted, worked};
 use crate::held::held_up;
 use crate::meetings::collector_copies_while_a_put_is_half_done;
-use crate::plays::{Log, Play};
-use crate::runs::{Words, ran, replayed};
+use crate::plays::{Play, StartingLog};
+use crate::runs::{CommandWords, ran, replayed};
 use anyhow::Result;
+use ps_run::System;
 use std::alloc::{AllocError, Global};
-use std::hash::RandomState;
 use std::sync::Wait;
 use std::thread::Threads;
 
@@ -98,12 +98,8 @@ fn program_of(alloc: Global, field: &str) -> Result<Vec<u8>, AllocError> {
 }
 
 /// What comes of a row; the keys are for the tables of names alone.
-pub fn verdict_of<R: Threads + Wait + Sync>(
-    rt: &R,
-    alloc: Global,
-    keys: RandomState,
-    line: &str,
-) -> Result<Verdict> {
+pub fn verdict_of<R: Threads + Wait + Sync>(system: System<'_, R>, line: &str) -> Result<Verdict> {
+    let System { alloc, keys, .. } = system;
     let mut fields = line.split('\t');
     let (Some(place), Some(program), Some(wanted)) = (fields.next(), fields.next(), fields.next())
     else {
@@ -118,9 +114,7 @@ pub fn verdict_of<R: Threads + Wait + Sync>(
     let log = match name {
         "drive" | "plain" | "contexts" => {
             return Ok(run(
-                rt,
-                alloc,
-                keys,
+                system,
                 name,
                 program.as_slice(),
                 wanted.as_slice(),
@@ -140,17 +134,17 @@ pub fn verdict_of<R: Threads + Wait + Sync>(
                 least,
             };
             if name == MEETING {
-                return Ok(collector_copies_while_a_put_is_half_done(rt, alloc, keys, row));
+                return Ok(collector_copies_while_a_put_is_half_done(system, row));
             }
-            return Ok(worked(rt, alloc, keys, row));
+            return Ok(worked(system, row));
         }
         "held" => {
             let (program, wanted) = (program.as_slice(), wanted.as_slice());
             return Ok(held_up(alloc, keys, program, wanted, number)?);
         }
-        "bounded" => Log::Idle,
-        "full" => Log::Full,
-        "closed" => Log::Closed,
+        "bounded" => StartingLog::Idle,
+        "full" => StartingLog::Full,
+        "closed" => StartingLog::Closed,
         _ => return Ok(Verdict::Different),
     };
     let play = Play::new(alloc, keys, number % (1 << 24), program.as_slice())?;
@@ -160,19 +154,18 @@ pub fn verdict_of<R: Threads + Wait + Sync>(
 
 /// What comes of a row that is run by the command line.
 fn run<R: Threads + Wait + Sync>(
-    rt: &R,
-    alloc: Global,
-    keys: RandomState,
+    system: System<'_, R>,
     name: &str,
     program: &[u8],
     printed: &[u8],
     status: u8,
 ) -> Verdict {
-    let mut verdict = ran(rt, alloc, keys, Words::Plain, program, printed, status).and(replayed(
+    let System { alloc, keys, .. } = system;
+    let mut verdict = ran(system, CommandWords::Plain, program, printed, status).and(replayed(
         alloc, keys, program, printed,
     ));
     if name != "plain" {
-        verdict = verdict.and(ran(rt, alloc, keys, Words::Collected, program, printed, status));
+        verdict = verdict.and(ran(system, CommandWords::Collected, program, printed, status));
     }
     if name == "contexts" {
         verdict = verdict.and(scheduled(alloc, keys, program, printed));

@@ -1,12 +1,11 @@
 //! A program by the command line, and again under the schedule that its run returned.
 
 use crate::driven::{ALL_WRITES, MEMORY, driven};
-use crate::fakes::{Files, deeds_in, steps_in};
+use crate::fakes::{Files, job_of, task_of};
 use crate::rows::Verdict;
-use ps_run::ReadFault;
+use ps_run::{ReadFault, System};
 use ps_vault::{
-    ANY_ENTRIES, ANY_OUTPUT, Config, Entry, Outcome, Report, RunFault, Schedule, Setup, replay,
-    run_plain,
+    ANY_ENTRIES, ANY_OUTPUT, Config, Entry, Outcome, Report, RunFault, Schedule, replay, run_plain,
 };
 use std::alloc::{AllocError, Global};
 use std::hash::RandomState;
@@ -25,43 +24,34 @@ pub const CONFIG: Config = Config {
 
 /// The words of a command line.
 #[derive(Clone, Copy, Debug, PartialEq, Eq)]
-pub enum Words {
+pub enum CommandWords {
     /// Of a run over plain memory.
     Plain,
     /// Of a run in a space that is collected.
     Collected,
 }
 
-impl Words {
+impl CommandWords {
     /// The words themselves.
     fn all(self) -> &'static [&'static str] {
         match self {
-            Words::Plain => &["--plain", "f"],
-            Words::Collected => &["f"],
+            CommandWords::Plain => &["--plain", "f"],
+            CommandWords::Collected => &["f"],
         }
     }
 }
 
 /// Whether the command line prints this, with this status and nothing told.
 pub fn ran<R: Threads + Wait + Sync>(
-    rt: &R,
-    alloc: Global,
-    keys: RandomState,
-    words: Words,
+    system: System<'_, R>,
+    words: CommandWords,
     program: &[u8],
     printed: &[u8],
     status: u8,
 ) -> Verdict {
+    let System { alloc, .. } = system;
     let mut files = Files::new(alloc, Ok(program), Err(ReadFault::NoRead));
-    let given = driven(
-        rt,
-        alloc,
-        keys,
-        words.all(),
-        &mut files,
-        ALL_WRITES,
-        printed.len(),
-    );
+    let given = driven(system, words.all(), &mut files, ALL_WRITES, printed.len());
     let Ok(given) = given else {
         return Verdict::WantsMemory;
     };
@@ -74,14 +64,7 @@ pub fn ran<R: Threads + Wait + Sync>(
 /// Whether a run prints this, or a beginning of it where memory is wanted, and prints the same
 /// bytes again under its schedule.
 pub fn replayed(alloc: Global, keys: RandomState, program: &[u8], printed: &[u8]) -> Verdict {
-    match run_plain(
-        alloc,
-        steps_in(alloc),
-        deeds_in(alloc),
-        program,
-        CONFIG,
-        keys,
-    ) {
+    match run_plain(alloc, job_of(alloc, keys, program, CONFIG)) {
         Err(RunFault::Memory) => Verdict::WantsMemory,
         Err(RunFault::Config) => Verdict::Different,
         Ok(report) => {
@@ -115,14 +98,7 @@ pub fn again(alloc: Global, keys: RandomState, program: &[u8], report: &Report) 
     let Ok(schedule) = entries_of(alloc, &report.schedule) else {
         return Verdict::WantsMemory;
     };
-    let Ok(other) = replay(
-        alloc,
-        steps_in(alloc),
-        deeds_in(alloc),
-        program,
-        schedule.as_slice(),
-        Setup::unbounded(keys),
-    ) else {
+    let Ok(other) = replay(alloc, task_of(alloc, keys, program), schedule.as_slice()) else {
         return Verdict::WantsMemory;
     };
     let printed = report.printed.as_slice();

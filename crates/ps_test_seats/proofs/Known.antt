@@ -7,7 +7,7 @@ use Rattle.ps_record.specs.declared.Record.TheVariants.{Close}
 use Rattle.ps_core_machine.specs.declared.events.Gc.{Gc}
 use Rattle.ps_core_machine.specs.Objects.{among, is_close}
 use Rattle.ps_core_laws.proofs.HeapTests.{bool_cases, and_parts, and_both}
-use Rattle.ps_core_memory.specs.Stores.{numbers}
+use Rattle.ps_core_laws.specs.Stores.{numbers}
 use Rattle.ps_table.specs.declared.plays.View.{View}
 use Rattle.ps_gc.specs.declared.collector.Drained.{Drained}
 use Rattle.ps_gc.specs.declared.collector.Drained.TheVariants.{Nothing, Took, Closed}

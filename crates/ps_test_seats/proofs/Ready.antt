@@ -8,9 +8,9 @@ use Rattle.ps_mem.specs.Keeps.{Keeps, Extends}
 use Rattle.ps_mem.specs.Shows.{IsValue, AreValues, IsSound, IsReady}
 use Rattle.ps_mem.proofs.KeepsLemmas.{AreValues-kept, Keeps-Extends}
 use Rattle.ps_mem.proofs.Lists.{all_append}
-use Rattle.ps_core_flips.specs.Collected.{IsCollected}
-use Rattle.ps_core_flips.proofs.Objects.{sound-moved}
-use Rattle.ps_core_flips.proofs.Words.{AreValues-moved}
+use Rattle.ps_core_laws.specs.Collected.{IsCollected}
+use Rattle.ps_core_laws.proofs.Objects.{sound-moved}
+use Rattle.ps_core_laws.proofs.Words.{AreValues-moved}
 use Rattle.ps_gc.specs.declared.flips.Flip.{Flip}
 use Rattle.ps_gc.specs.declared.flips.Flip.TheVariants.{Done, NotReady}
 use Rattle.ps_gc.specs.declared.flips.Unready.{Unready}

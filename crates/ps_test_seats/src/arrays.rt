@@ -8,9 +8,9 @@ ghost use Rattle.ps_mem.specs.Heap.{Heap, empty_heap};
 ghost use Rattle.ps_mem.specs.References.{StandsAs};
 ghost use Rattle.ps_mem.specs.Shows.{AreValues, IsValue};
 
-use ps_core_flips::collected::Counts;
-use ps_core_flips::sides::LoggedMemory;
-use ps_core_memory::Closing;
+use ps_core_laws::Closing;
+use ps_core_laws::collected::Counts;
+use ps_core_laws::sides::LoggedMemory;
 use ps_language::kinds::Kind;
 use ps_mem::{Memory, NeedFault, Permit};
 use ps_ops_operands::readers::{array_of, array_word};

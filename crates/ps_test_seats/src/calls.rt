@@ -6,7 +6,7 @@ ghost use Rattle.std.specs.Prelude.{◌<◌};
 use crate::arrays::{Arrays, Fields, Item, Store};
 use crate::lent::Lent;
 use crate::sides::Sides;
-use ps_core_flips::sides::Works;
+use ps_core_laws::sides::Works;
 use ps_gc::{MutatorSeat, Naming};
 use ps_record::SLOTS;
 use ps_record::slots::Slot;
@@ -16,7 +16,7 @@ use std::fmt::Debug;
 
 /// A call of a row.
 #[derive(Drop)]
-pub struct Call<'a> {
+pub struct SeatCall<'a> {
     alloc: Global,
     name: &'a str,
     numbers: Vec<u32>,
@@ -34,16 +34,16 @@ fn item_of(text: &str) -> Item {
     }
 }
 
-impl<'a> Call<'a> {
+impl<'a> SeatCall<'a> {
     /// Read from a row.
-    pub fn read(alloc: Global, row: &'a str) -> Result<Call<'a>, AllocError> {
+    pub fn read(alloc: Global, row: &'a str) -> Result<SeatCall<'a>, AllocError> {
         let (name, rest) = row.split_once(' ').unwrap_or((row, ""));
         let (_, last) = rest.rsplit_once(' ').unwrap_or(("", rest));
         let mut numbers = Vec::new(alloc);
         for text in rest.split_whitespace() {
             numbers.push(text.parse::<u32>().unwrap_or(u32::MAX))?;
         }
-        Ok(Call {
+        Ok(SeatCall {
             alloc,
             name,
             numbers,

@@ -5,7 +5,7 @@ ghost use Rattle.std.specs.Prelude.{◌≡◌};
 
 use crate::arrays::Arrays;
 use crate::sides::{SPACE, Seats};
-use ps_core_flips::sides::{Collects, LoggedMemory, Works};
+use ps_core_laws::sides::{Collects, LoggedMemory, Works};
 use ps_gc::{Copier, MutatorSeat, Naming, named_seats};
 use std::alloc::{AllocError, Global};
 

@@ -25,9 +25,10 @@ mod sides;
 mod timings;
 
 use anyhow::{Result, bail};
-use calls::Call;
+use calls::SeatCall;
 use lent::Lent;
 use programs::stress;
+use ps_ctx::makers::Makers;
 use ps_ctx_operators::operators::WorldOperators;
 use ps_gc::Naming;
 use ps_ops::operators::Operators;
@@ -71,7 +72,7 @@ fn play_steps<J: Naming>(rt: &HostRuntime, seats: Seats, rows: &[String]) -> Res
     let mut sides: Sides<J> = Sides::new(rt.alloc(), seats);
     for row in rows {
         let (times, text) = repeated(row.as_str());
-        let call = Call::read(rt.alloc(), text)?;
+        let call = SeatCall::read(rt.alloc(), text)?;
         for _ in 0..times {
             tell(rt, row.as_str(), call.of_sides(&mut sides)?)?;
         }
@@ -86,7 +87,7 @@ fn play_copier<J: Naming>(rt: &HostRuntime, seats: Seats, rows: &[String]) -> Re
     let mut lent: Lent<J> = Lent::new(rt.alloc(), seats)?;
     for row in rows {
         let (times, text) = repeated(row.as_str());
-        let call = Call::read(rt.alloc(), text)?;
+        let call = SeatCall::read(rt.alloc(), text)?;
         for _ in 0..times {
             tell(rt, row.as_str(), call.of_lent(&mut lent)?)?;
         }
@@ -119,7 +120,10 @@ fn stressed(alloc: Global, keys: RandomState, program: &str) -> Result<String> {
         operators: Operators,
         text: Vec::new(alloc),
     };
-    let makers = (steps, WorldOperators { alloc });
+    let makers = Makers {
+        steps,
+        operators: WorldOperators { alloc },
+    };
     let came = stress::<Brand, Steps<Operators>, WorldOperators>(
         alloc,
         makers,

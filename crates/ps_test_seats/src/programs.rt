@@ -5,10 +5,11 @@ ghost use Rattle.std.specs.Prelude.{◌≡◌};
 use crate::sides::{SPACE, Seats};
 use anyhow::{Result, bail};
 use ps_ctx::deeds::Deeds;
+use ps_ctx::makers::Makers;
 use ps_gc::{Naming, named_seats};
 use ps_gc_roots::ROOT_LIMIT;
 use ps_step_interpreter::interprets::Interpret;
-use ps_vault::{ANY_ENTRIES, Outcome, Room, Roots, Setup, Vault};
+use ps_vault::{ANY_ENTRIES, Outcome, Room, RootList, Setup, Task, Vault};
 use std::alloc::Global;
 use std::hash::RandomState;
 
@@ -27,7 +28,7 @@ pub struct Stressed {
 /// Runs a program by who makes its steps, each of which is followed by `stop_all`.
 pub fn stress<J: Naming, S: Interpret + Drop, D: Deeds + Drop>(
     alloc: Global,
-    makers: (S, D),
+    makers: Makers<S, D>,
     keys: RandomState,
     seats: Seats,
     program: &[u8],
@@ -36,15 +37,15 @@ pub fn stress<J: Naming, S: Interpret + Drop, D: Deeds + Drop>(
 {
     let Seats { vm, gc } = seats;
     let (memory, mut copier) = named_seats::<J>(alloc, vm, gc, SPACE, ROOT_LIMIT)?;
-    let mut roots = Roots::new(alloc)?;
-    let (interpret, deeds) = makers;
+    let mut roots = RootList::new(alloc)?;
     let mut vault = Vault::new(
         alloc,
         memory,
-        interpret,
-        deeds,
-        program,
-        Setup::unbounded(keys),
+        Task {
+            makers,
+            program,
+            setup: Setup::unbounded(keys),
+        },
         Room::of_run(ANY_ENTRIES),
     )?;
     let mut made: u32 = 0;

@@ -5,7 +5,7 @@ ghost use Rattle.std.specs.Prelude.{◌≡◌};
 use crate::arrays::{Fields, array_at};
 use crate::sides::{Seats, Sides};
 use anyhow::{Result, ensure};
-use ps_core_memory::Closing;
+use ps_core_laws::Closing;
 use ps_gc::{Drained, Naming};
 use ps_mem::Permit;
 use ps_record::Record;

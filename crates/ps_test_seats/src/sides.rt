@@ -8,16 +8,16 @@ ghost use Rattle.std.specs.Prelude.{◌≡◌, true, slice_get};
 ghost use Rattle.ps_core_machine.specs.Steps.{start, knows_open};
 ghost use Rattle.ps_mem.specs.Bounded.{bounded_space};
 ghost use Rattle.ps_mem.specs.Heap.{empty_heap};
-ghost use Rattle.ps_core_memory.specs.Memory.{heap_of};
+ghost use Rattle.ps_core_laws.specs.Memory.{heap_of};
 ghost use Rattle.ps_gc.specs.Known.{are_known};
 ghost use Rattle.ps_test_seats.specs.declared.sides.TheConstants.{SPACE};
 
 use crate::arrays::Arrays;
-use ps_core_flips::sides::LoggedMemory;
+use ps_core_laws::sides::LoggedMemory;
 use ps_gc::{Collector, Drained, Flip, MutatorSeat, Naming};
 use ps_record::slots::Slot;
 use ps_record::{SLOTS, SPACES_START};
-use ps_table::{GcSeat, Shared, VmSeat};
+use ps_table::{GcSeat, SharedSeats, VmSeat};
 use ps_word::words::Word;
 use std::alloc::{AllocError, Global};
 
@@ -40,7 +40,7 @@ pub struct Seats {
 impl Seats {
     /// Those of a new table. `AllocError`: there is no room for it.
     pub fn new(alloc: Global) -> Result<Seats, AllocError> {
-        let (vm, gc) = Shared::new(alloc, SPACE)?;
+        let (vm, gc) = SharedSeats::new(alloc, SPACE)?;
         Ok(Seats { vm, gc })
     }
 }

@@ -8,7 +8,7 @@ use crate::accounts::{Account, FIELDS, Work};
 use crate::arrays::{Arrays, Item, Store, array_at, item_of};
 use crate::sides::{Seats, Sides};
 use anyhow::{Result, ensure};
-use ps_core_memory::Closing;
+use ps_core_laws::Closing;
 use ps_gc::{Flip, Naming};
 use ps_mem::plain::PlainMemory;
 use ps_mem::{Memory, Permit};
@@ -91,14 +91,14 @@ fn store_rest<M: Memory + Drop>(arrays: &mut Arrays<M>, from: u32) -> Result<()>
 
 /// A cycle over the two arrays, and the account of it.
 #[derive(Drop)]
-struct Trial<J: Naming> {
+struct Attempt<J: Naming> {
     sides: Sides<J>,
     account: Account,
 }
 
-impl<J: Naming> Trial<J> {
+impl<J: Naming> Attempt<J> {
     /// An open cycle, of which the collector knows.
-    fn new(alloc: Global, seats: Seats) -> Result<Trial<J>>
+    fn new(alloc: Global, seats: Seats) -> Result<Attempt<J>>
         requires { seats.vm.seat.table_id ≡ J.table }
     {
         let mut sides = Sides::new(alloc, seats);
@@ -117,7 +117,7 @@ impl<J: Naming> Trial<J> {
                 account.hold(first_in(array, field));
             }
         }
-        Ok(Trial { sides, account })
+        Ok(Attempt { sides, account })
     }
 
     /// Makes the store of this number.
@@ -240,26 +240,26 @@ fn hold_the_same<M: Memory + Drop>(alloc: Global, arrays: &mut Arrays<M>) -> Res
 pub fn time_one<J: Naming>(alloc: Global, seats: Seats, timing: Timing) -> Result<bool>
     requires { seats.vm.seat.table_id ≡ J.table }
 {
-    let mut trial: Trial<J> = Trial::new(alloc, seats)?;
+    let mut attempt: Attempt<J> = Attempt::new(alloc, seats)?;
     for number in 0..timing.after.min(STORES) {
-        trial.store(number)?;
+        attempt.store(number)?;
         for _ in 0..timing.calls {
-            trial.go_on(timing.order)?;
+            attempt.go_on(timing.order)?;
         }
     }
-    trial.close(timing.slot)?;
+    attempt.close(timing.slot)?;
     let refused = match timing.slot {
         None => Some(timing.after),
         Some(slot) => (timing.after..STORES).find(|number| store_of(*number).slot == slot),
     };
-    let flipped = trial.flip_behind_each(timing.order, refused)?;
+    let flipped = attempt.flip_behind_each(timing.order, refused)?;
     if !flipped {
-        trial.find_nothing()?;
-        ensure!(trial.sides.end(), "no cycle is ended");
+        attempt.find_nothing()?;
+        ensure!(attempt.sides.end(), "no cycle is ended");
     }
-    store_rest(&mut trial.sides.arrays, timing.after)?;
+    store_rest(&mut attempt.sides.arrays, timing.after)?;
     ensure!(
-        hold_the_same(alloc, &mut trial.sides.arrays)?,
+        hold_the_same(alloc, &mut attempt.sides.arrays)?,
         "the arrays differ"
     );
     Ok(flipped)

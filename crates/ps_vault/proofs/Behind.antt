@@ -3,7 +3,7 @@ use Rattle.std.proofs.Common.{◌≡◌, ℕ, ℤ, ◌≤◌, true, false, Optio
 use Rattle.std.specs.Prelude.{IfSome, is_some}
 use Rattle.ps_language.specs.declared.schedules.Entry.{Entry}
 use Rattle.ps_language.specs.Effect as effect
-use Rattle.ps_language.specs.Effect.{turn_ends, Around, Scene}
+use Rattle.ps_language.specs.Effect.{Around, Scene}
 use Rattle.ps_language.specs.Live.{Live}
 use Rattle.ps_language.specs.Locks.{is_ready}
 use Rattle.ps_language.specs.Schedules.{plain_move, added, moves, count_of}
@@ -11,7 +11,7 @@ use Rattle.ps_language.specs.World.{Status, World}
 use Rattle.ps_language.specs.Worlds.{starting_world, world}
 use Rattle.ps_language.proofs.ScheduleLaws.{moves-added}
 use Rattle.ps_ops_state.specs.Acts.{Asked}
-use Rattle.ps_ops_state.specs.Trials.{ordinary}
+use Rattle.ps_ops_state.specs.Attempts.{ordinary}
 use Rattle.ps_language.specs.Worlds.{kept_pair}
 use Rattle.ps_mem.specs.Heap.{Heap, Grants, Space, standing_words}
 use Rattle.ps_mem.specs.Stands.{IsAddressed}
@@ -25,7 +25,7 @@ use Rattle.ps_ctx.specs.Steps.{AreShown, StepsBehind, shown_words}
 use Rattle.ps_language.specs.Step.{stepped}
 use Rattle.ps_run_schedules.specs.Turns.{added_times, move_of}
 use Rattle.ps_vault.specs.Holds as holds
-use Rattle.ps_vault.specs.Holds.{IsHeldUp, wish_in}
+use Rattle.ps_vault.specs.Holds.{IsHeldUp}
 use Rattle.ps_vault.specs.Order.{IsOnlyLeft, Tells, AllTell, IsOfOne, AllOfOne, AllTellButLast, EndsWith}
 use Rattle.ps_vault.specs.Reports.{are_words}
 use Rattle.ps_vault.specs.Warrants.{AddsShown, AllWarranted, IsPairOf, IsWarranted}

@@ -7,9 +7,9 @@ use native.Mathlib.Decide.{ℕ_discrete}
 use Rattle.ps_language.specs.declared.schedules.Entry.{Entry}
 use Rattle.ps_language.specs.Worlds.{world, IsProper}
 use Rattle.ps_mem.specs.Heap.{Grants}
-use Rattle.ps_core_memory.specs.declared.Closing.{Closing}
-use Rattle.ps_core_memory.specs.declared.Closing.TheVariants.{Closed, LogFull}
-use Rattle.ps_core_memory.specs.Laws.{AfterClose}
+use Rattle.ps_core_laws.specs.declared.Closing.{Closing}
+use Rattle.ps_core_laws.specs.declared.Closing.TheVariants.{Closed, LogFull}
+use Rattle.ps_core_laws.specs.MemoryLaws.{AfterClose}
 use Rattle.ps_gc_roots.specs.Moved.{KeepsWorlds}
 use Rattle.ps_ctx_table.specs.Desks.{Desk}
 use Rattle.ps_ctx.specs.declared.worlds.Calling.{Calling}

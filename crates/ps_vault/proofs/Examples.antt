@@ -1,15 +1,19 @@
 -- What the definitions of runs say and what they don't, by examples.
-use Rattle.std.proofs.Common.{◌≡◌, ◌≤◌, ◌+◌, inl, inr, ℕ, true, false, None, Some, List, [], ◌∷◌, length, refl, sym, ap, arith}
-use Rattle.std.specs.Prelude.{codes, pos, negsuc}
+use Rattle.std.proofs.Common.{◌≡◌, ◌≤◌, ◌+◌, ◌++◌, inl, inr, ℕ, true, false, None, Some, List, [], ◌∷◌, length, refl, sym, ap, arith}
+use Rattle.std.specs.Prelude.{codes, pos, negsuc, zero, suc, ◌<◌}
 use Rattle.std.proofs.lemmas.Bool.{true≢false}
 use Rattle.ps_language.specs.Live.{asked_words}
+use Rattle.ps_language.specs.Schedules.{Move, plain_move}
+use Rattle.ps_language.specs.Effect.{turn_ends}
+use Rattle.ps_language.specs.Step.{stepped}
 use Rattle.ps_language.specs.World.{World}
-use Rattle.ps_language.specs.Worlds.{starting_world, world}
+use Rattle.ps_language.specs.Worlds.{after_moves, starting_world, world}
 use Rattle.ps_language.proofs.Evaluation.{evaluation}
 use Rattle.ps_language.proofs.Exists.{exists, finding}
 use Rattle.ps_language.proofs.ProgramExamples.{turns}
 use Rattle.ps_run_schedules.specs.Keeping.{Kept}
 use Rattle.ps_vault.specs.declared.reports.Outcome.TheVariants.{StepsOut, Memory}
+use Rattle.ps_vault.specs.Order.{IsNext, IsNoneAbove, AddsTurn, IsOver, EndsTurn}
 use Rattle.ps_vault.specs.Reports.{EndsAs, IsShort, no_words_left, no_entry_left, are_words, fits}
 use Rattle.ps_vault.specs.Screens.{HasShown}
 use Rattle.ps_vault.specs.Warrants.{IsRefusal, no_room, no_births, no_cycles}
@@ -121,3 +125,82 @@ more_seen : HasShown (Some (codes "a"))
     (record { seen = Some (codes "abc"); watching = true; shown = 3; failed = false })
     (codes "bc") → ⊥
 more_seen has = let within = has.within in omega (arith, within)
+
+-- ---- whose turn is next
+
+-- two contexts are ready
+both : World
+both = world (codes "mark {1} fork 2") (turns 1 3 ∷ [])
+
+-- behind the turn of the first the second is next
+second_next : IsNext both 1 2
+unfolding evaluation both
+second_next = inl (record {
+  above = omega arith;
+  ready = refl;
+  least = λ k over under. absurd (omega (arith, over, under));
+})
+
+-- and not the first again
+first_again : IsNext both 1 1 → ⊥
+unfolding evaluation both
+first_again (inl least) = let above = least.above in omega (arith, above)
+first_again (inr passes) = true≢false (passes.0 2 (omega arith))
+
+-- behind that of the second the next pass begins
+none_above : IsNoneAbove both 2
+unfolding evaluation both
+none_above zero over = absurd (omega (arith, over))
+none_above (suc zero) over = absurd (omega (arith, over))
+none_above (suc (suc zero)) over = absurd (omega (arith, over))
+none_above (suc (suc (suc k))) over = refl
+
+first_next : IsNext both 2 1
+unfolding evaluation both
+first_next = inr (
+  none_above,
+  record {
+    above = omega arith;
+    ready = refl;
+    least = λ k over under. absurd (omega (arith, over, under));
+  },
+)
+
+-- with the first, and not with the second
+second_again : IsNext both 2 2 → ⊥
+unfolding evaluation both
+second_again (inl least) = let above = least.above in omega (arith, above)
+second_again (inr passes) = true≢false (passes.1.least 1 (omega arith) (omega arith))
+
+-- ---- turns
+
+-- a turn has one step at least
+no_turn : (start : World) (steps : List Move) → AddsTurn 2 start 0 1 0 [] steps → ⊥
+no_turn start steps turn = let some = turn.some in omega (arith, some)
+
+-- and at most as many as a turn may have
+too_long : (start : World) (steps : List Move) → AddsTurn 2 start 0 1 3 [] steps → ⊥
+too_long start steps turn = let within = turn.within in omega (arith, within)
+
+-- then it is over
+whole_turn : (start : World) (steps : List Move) → IsOver 2 start 1 2 steps
+whole_turn start steps = inl refl
+
+-- a yield ends it sooner
+yielded : EndsTurn (starting_world (codes "yield 1")) 1 (plain_move 1 ∷ [])
+unfolding evaluation
+yielded = record { before = []; last = plain_move 1; is = refl; shown = None; told = refl }
+
+-- and nothing that goes on does
+going_on : EndsTurn (starting_world (codes "1 2")) 1 (plain_move 1 ∷ []) → ⊥
+unfolding evaluation
+going_on ends = by ends.before ends.is ends.told
+  where
+    by : (before : List Move) → plain_move 1 ∷ [] ≡ before ++ ends.last ∷ []
+        → (stepped (after_moves (starting_world (codes "1 2")) before) 1 false ends.shown).note
+        ≡ turn_ends → ⊥
+    by [] is told = cc
+    by (one ∷ []) is told = let size = ap {B = ℕ} (λ (ms : List Move). length ms) is in
+        omega (arith, size)
+    by (one ∷ two ∷ more) is told = let size = ap {B = ℕ} (λ (ms : List Move). length ms) is in
+        absurd (cc)

@@ -17,7 +17,7 @@ use Rattle.ps_language.proofs.Recorded.{recorded-same}
 use Rattle.ps_language.proofs.ScheduleLaws.{moves-added, longest-added}
 use Rattle.ps_language.proofs.WorldLaws.{after_moves-append, all_ready-append}
 use Rattle.ps_ops_operands.specs.declared.failure.NotMade.{NotMade as Reason}
-use Rattle.ps_ops_state.specs.declared.lent.Trial.{Trial}
+use Rattle.ps_ops_state.specs.declared.lent.Attempt.{Attempt}
 use Rattle.ps_ops_state.specs.Acts.{Asked}
 use Rattle.ps_mem.specs.Heap.{Heap, Space}
 use Rattle.ps_ctx_table.specs.declared.members.Member.{Member}
@@ -110,72 +110,72 @@ shows_noted TurnEnds is = absurd (cc)
 shows_noted ShowsMemory is = refl
 shows_noted (Wishes number) is = absurd (cc)
 
-module _ (asks : Status → Around → Scene → Asked) (context : ℕ) (trial : Trial)
+module _ (asks : Status → Around → Scene → Asked) (context : ℕ) (attempt : Attempt)
     (shown : Option (ℤ × ℤ)) (old new : Held) (schedule : List Entry) (keeps : Keeps old schedule)
     (ready : is_ready (world old.desk.program schedule) context ≡ true) where
   abbrev here : World
   here = world old.desk.program schedule
 
   abbrev move : Move
-  move = move_of context trial.refused shown
+  move = move_of context attempt.refused shown
 
   -- it is made, and noted with a pair under which it comes to the same world
   keeps_as : (note : Note) (kept : Option (ℤ × ℤ))
-      → Steps asks context trial shown (Ok note) old new
-      → after_move here move ≡ after_move here (move_of context trial.refused kept)
-      → Keeps new (added schedule (move_of context trial.refused kept))
+      → Steps asks context attempt shown (Ok note) old new
+      → after_move here move ≡ after_move here (move_of context attempt.refused kept)
+      → Keeps new (added schedule (move_of context attempt.refused kept))
   unfolding step
   keeps_as note kept steps same =
       let to = steps.meets here keeps.at ready in
-      let after : List Entry = added schedule (move_of context trial.refused kept) in
+      let after : List Entry = added schedule (move_of context attempt.refused kept) in
       record {
         steady = steps.steady;
         at = subst (λ (p : List ℕ). IsAt new (world p after)) (sym steps.program)
             (subst (λ (calling : Option Calling). IsAtBy calling new.desk
             (world old.desk.program after)) (sym to.1)
             (subst (IsWorld new.desk) (same ∙ sym (world_added old.desk.program schedule
-            (move_of context trial.refused kept))) to.0));
+            (move_of context attempt.refused kept))) to.0));
         proper = subst (λ (p : List ℕ). IsProper p after) (sym steps.program)
-            (proper_added old.desk.program schedule (move_of context trial.refused kept)
+            (proper_added old.desk.program schedule (move_of context attempt.refused kept)
             keeps.proper ready);
-        longest = longest-added schedule (move_of context trial.refused kept) keeps.longest;
+        longest = longest-added schedule (move_of context attempt.refused kept) keeps.longest;
         no_status = subst (λ (c : Option Calling). IfSome c
             (λ one. HasNoStatus (world new.desk.program after) one.caller)) (sym to.1) tt;
       }
 
   -- a vmstatus that acts leaves the memory as it was
-  pub status_leaves : (note : Note) → Steps asks context trial shown (Ok note) old new
+  pub status_leaves : (note : Note) → Steps asks context attempt shown (Ok note) old new
       → IsStatus here move → new.desk.heap ≡ old.desk.heap
   status_leaves note steps status =
       steps.leaves here keeps.at (ap (λ (n : Note). Ok n)
       (shows_noted note ((steps.meets here keeps.at ready).2 ∙ status)))
 
   -- no cycle was opened or ended, and no log closed
-  pub same_cycle : (result : Result Note Reason) → Steps asks context trial shown result old new
+  pub same_cycle : (result : Result Note Reason) → Steps asks context attempt shown result old new
       → new.desk.grants.cycle_open ≡ old.desk.grants.cycle_open
   same_cycle result steps = (steps.logs here keeps.at ready).cycle_open
 
-  pub same_closed : (result : Result Note Reason) → Steps asks context trial shown result old new
+  pub same_closed : (result : Result Note Reason) → Steps asks context attempt shown result old new
       → logs_closed new.desk.grants.closed ≡ logs_closed old.desk.grants.closed
   same_closed result steps = ap logs_closed (steps.logs here keeps.at ready).closed
 
   -- with what was shown
-  pub keeps_step : (note : Note) → Steps asks context trial shown (Ok note) old new
+  pub keeps_step : (note : Note) → Steps asks context attempt shown (Ok note) old new
       → Keeps new (added schedule move)
   keeps_step note steps = keeps_as note shown steps refl
 
   -- with what was shown where a vmstatus acted
   pub keeps_noted : (note : Note) (kept : Option (ℤ × ℤ))
-      → Steps asks context trial shown (Ok note) old new → kept ≡ kept_pair (note_of note) shown
-      → Keeps new (added schedule (move_of context trial.refused kept))
+      → Steps asks context attempt shown (Ok note) old new → kept ≡ kept_pair (note_of note) shown
+      → Keeps new (added schedule (move_of context attempt.refused kept))
   keeps_noted note kept steps is =
       let to = steps.meets here keeps.at ready in
       keeps_as note kept steps (sym (recorded-same here move)
-      ∙ ap (λ (pair : Option (ℤ × ℤ)). after_move here (move_of context trial.refused pair))
+      ∙ ap (λ (pair : Option (ℤ × ℤ)). after_move here (move_of context attempt.refused pair))
       (sym (is ∙ ap (λ (n : effect.Note). kept_pair n shown) to.2)))
 
   -- it is not
-  module _ (reason : Reason) (steps : Steps asks context trial shown (Err reason) old new) where
+  module _ (reason : Reason) (steps : Steps asks context attempt shown (Err reason) old new) where
     pub keeps_unmade : Keeps new schedule
     keeps_unmade = record {
       steady = steps.steady;

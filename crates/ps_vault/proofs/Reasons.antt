@@ -20,7 +20,7 @@ use Rattle.ps_record.specs.Format.{slots}
 use Rattle.ps_mem.specs.Heap.{Heap, Grants, has_room}
 use Rattle.ps_ops_operands.specs.declared.failure.NotMade.{NotMade as Reason}
 use Rattle.ps_ops_operands.specs.declared.failure.NotMade.TheVariants.{LogFull, LogClosed, NeedSpace, Memory}
-use Rattle.ps_ops_state.specs.declared.lent.Trial.{Trial}
+use Rattle.ps_ops_state.specs.declared.lent.Attempt.{Attempt}
 use Rattle.ps_ops_state.specs.Acts.{Asked}
 use Rattle.ps_ctx_table.specs.Desks.{Desk}
 use Rattle.ps_step_outcome.specs.Turns.{calling_of}
@@ -85,10 +85,10 @@ memory_of h schedule story keeps program made numbers = record {
 
 -- ---- a step that isn't made
 
-module _ (asks : Status → Around → Scene → Asked) (context : ℕ) (trial : Trial)
+module _ (asks : Status → Around → Scene → Asked) (context : ℕ) (attempt : Attempt)
     (shown : Option (ℤ × ℤ)) (old new : Held) (schedule : List Entry) (keeps : Keeps old schedule)
     (ready : is_ready (world old.desk.program schedule) context ≡ true) (reason : Reason)
-    (steps : Steps asks context trial shown (Err reason) old new) where
+    (steps : Steps asks context attempt shown (Err reason) old new) where
   abbrev here : World
   here = world old.desk.program schedule
 
@@ -112,15 +112,15 @@ module _ (asks : Status → Around → Scene → Asked) (context : ℕ) (trial :
       (story : Story) → story.program ≡ new.desk.program → story.schedule ≡ schedule
       → HasNumbersOf story new.desk
       → new.desk.heap ≡ heap memory → new.desk.grants ≡ grants memory
-      → trial.slot ≡ slot_of context
-      → IsHeldUp heap grants asks context trial.refused story reason
+      → attempt.slot ≡ slot_of context
+      → IsHeldUp heap grants asks context attempt.refused story reason
   held_step heap grants memory story program made numbers same_heap same_grants logged =
       let now : here ≡ world_at story =
       ap (λ (p : List ℕ). world p schedule) (sym (program ∙ steps.program))
       ∙ ap (world story.program) (sym made) in
-      let wanted : World → Growth = step_wants asks context trial.refused in
+      let wanted : World → Growth = step_wants asks context attempt.refused in
       let is_of : IsMemoryOf story new.desk.heap new.desk.grants =
-      memory_of new schedule story (keeps_unmade asks context trial shown old new schedule keeps ready reason steps)
+      memory_of new schedule story (keeps_unmade asks context attempt shown old new schedule keeps ready reason steps)
       program made numbers in
       record {
         ready = subst (λ (w : World). is_ready w context ≡ true) now ready;
@@ -131,9 +131,9 @@ module _ (asks : Status → Around → Scene → Asked) (context : ℕ) (trial :
             (grants memory) reason) now
             (subst (λ (n : ℕ). IsHeldUpAs (wanted here) n (heap memory) (grants memory) reason)
             logged
-            (subst (λ (g : Grants). IsHeldUpAs (wanted here) trial.slot (heap memory) g reason)
+            (subst (λ (g : Grants). IsHeldUpAs (wanted here) attempt.slot (heap memory) g reason)
             same_grants (subst (λ (h : Heap).
-            IsHeldUpAs (wanted here) trial.slot h new.desk.grants reason) same_heap
+            IsHeldUpAs (wanted here) attempt.slot h new.desk.grants reason) same_heap
             (steps.held_up reason refl here keeps.at ready))));
       }
 

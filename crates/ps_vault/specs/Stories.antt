@@ -17,7 +17,8 @@ use Rattle.ps_vault.specs.Reports.{Bounds}
 use Rattle.ps_vault.specs.Warrants.{AllWarranted}
 
 -- The program, the bounds of its run, the steps that were made, how many entries find room, and the
--- context whose call waits, since it could not be made. Of the memory: the words of its space, those
+-- context whose call waits, since it could not be made. Of the memory: the words of its space,
+-- those
 -- that are used, how often what stands was moved, whether a cycle of the collector is open, and by
 -- slot whether its log is closed
 pub record Story : Type 0 where

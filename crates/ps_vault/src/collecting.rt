@@ -2,16 +2,16 @@
 //! over. World and schedule stay.
 
 ghost use Rattle.std.specs.Prelude.{◌≡◌, ◌<◌, true, false, slice_index_or};
-ghost use Rattle.ps_core_flips.specs.Collected.{may_open, one_more_if, stopped};
+ghost use Rattle.ps_core_laws.specs.Collected.{may_open, one_more_if, stopped};
 ghost use Rattle.ps_vault.specs.Cycles.{IsFull};
 ghost use Rattle.ps_vault.specs.Stories.{UsesOnlyLive, with_closed, with_cycle, without_cycle};
 
 use crate::vaults::Vault;
-use ps_core_flips::collected::{CollectedMemory, Counts};
-use ps_core_flips::sides::{Collects, LoggedMemory};
-use ps_core_memory::Closing;
+use ps_core_laws::Closing;
+use ps_core_laws::collected::{CollectedMemory, Counts};
+use ps_core_laws::sides::{Collects, LoggedMemory};
 use ps_ctx::deeds::Deeds;
-use ps_gc_roots::{Roots, end_cycle, hand_over, open_cycle, stop_all, try_flip};
+use ps_gc_roots::{RootList, end_cycle, hand_over, open_cycle, stop_all, try_flip};
 use ps_mem::Slot;
 use ps_step_interpreter::interprets::Interpret;
 
@@ -21,7 +21,7 @@ impl<M: LoggedMemory + Drop, S: Interpret + Drop, D: Deeds + Drop> Vault<'_, M, 
         ensures same { self.new ≡ self.old }
         ensures answer { result ≡ self.old.cycle_open }
     {
-        self.memory.is_open()
+        self.runtime.memory.is_open()
     }
 
     /// Opens a cycle exactly where none is open and cycles are left: no log is closed. False:
@@ -31,14 +31,14 @@ impl<M: LoggedMemory + Drop, S: Interpret + Drop, D: Deeds + Drop> Vault<'_, M, 
         ensures opened { result ≡ true → self.new ≡ with_cycle self.old }
         ensures same { result ≡ false → self.new ≡ self.old }
     {
-        open_cycle(&mut self.memory, &self.world.contexts)
+        open_cycle(&mut self.runtime, &self.world.contexts)
     }
 
     /// The collector is handed the roots of all contexts.
-    pub fn hand_over<C: Collects<M>>(&mut self, collector: &mut C, roots: &mut Roots)
+    pub fn hand_over<C: Collects<M>>(&mut self, collector: &mut C, roots: &mut RootList)
         ensures { self.new ≡ self.old }
     {
-        hand_over(&mut self.memory, collector, &self.world.contexts, roots);
+        hand_over(&mut self.runtime, collector, &self.world.contexts, roots);
     }
 
     /// In an open cycle: closes the log of a slot until the cycle ends; a closed one stays as it
@@ -52,39 +52,42 @@ impl<M: LoggedMemory + Drop, S: Interpret + Drop, D: Deeds + Drop> Vault<'_, M, 
         ensures full { result ≡ Closing.LogFull
             → IsFull M.heap M.grants self.old slot × (self.new ≡ self.old) }
     {
-        self.memory.close_log(slot)
+        self.runtime.memory.close_log(slot)
     }
 
     /// Ends the open cycle by the flip, where all is ready for it: the objects move, and the roots
     /// of all contexts are renamed. False: nothing has changed.
-    pub fn try_flip<C: Collects<M>>(&mut self, collector: &mut C, roots: &mut Roots) -> bool
+    pub fn try_flip<C: Collects<M>>(&mut self, collector: &mut C, roots: &mut RootList) -> bool
         requires open { self.old.cycle_open ≡ true }
         ensures done { result ≡ true
             → self.new ≡ without_cycle (one_more_if true) self.new.used self.old }
         ensures same { result ≡ false → self.new ≡ self.old }
     {
-        try_flip(&mut self.memory, collector, &mut self.world.contexts, roots)
+        let contexts = &mut self.world.contexts;
+        try_flip(&mut self.runtime, collector, contexts, roots)
     }
 
     /// Ends the open cycle, whatever is left to do. False: no cycle was open.
-    pub fn end_cycle<C: Collects<M>>(&mut self, collector: &mut C, roots: &mut Roots) -> bool
+    pub fn end_cycle<C: Collects<M>>(&mut self, collector: &mut C, roots: &mut RootList) -> bool
         ensures ended { result ≡ self.old.cycle_open }
         ensures run { self.new
             ≡ without_cycle (one_more_if self.old.cycle_open) self.new.used self.old }
         ensures same { result ≡ false → self.new ≡ self.old }
     {
-        end_cycle(&mut self.memory, collector, &mut self.world.contexts, roots)
+        let contexts = &mut self.world.contexts;
+        end_cycle(&mut self.runtime, collector, contexts, roots)
     }
 
     /// Ends the open cycle, if there is one, and makes a whole one more, if cycles are left: nothing
     /// is used then but what lives. None is open then.
-    pub fn stop_all<C: Collects<M>>(&mut self, collector: &mut C, roots: &mut Roots)
+    pub fn stop_all<C: Collects<M>>(&mut self, collector: &mut C, roots: &mut RootList)
         ensures run { self.new
             ≡ without_cycle (stopped self.old.cycle_open) self.new.used self.old }
         ensures lives { may_open false (one_more_if self.old.cycle_open self.old.flips) ≡ true
             → UsesOnlyLive self.new }
     {
-        stop_all(&mut self.memory, collector, &mut self.world.contexts, roots);
+        let contexts = &mut self.world.contexts;
+        stop_all(&mut self.runtime, collector, contexts, roots);
     }
 
     /// How much the collector has done, by the words.
@@ -92,7 +95,7 @@ impl<M: LoggedMemory + Drop, S: Interpret + Drop, D: Deeds + Drop> Vault<'_, M, 
         ensures same { self.new ≡ self.old }
         ensures flips { result.flips ≡ self.old.flips }
     {
-        self.memory.counts()
+        self.runtime.memory.counts()
     }
 }
 
@@ -102,6 +105,6 @@ impl<M: CollectedMemory + Drop, S: Interpret + Drop, D: Deeds + Drop> Vault<'_, 
     pub fn work(&mut self, actions: u32) -> bool
         ensures { self.new ≡ self.old }
     {
-        self.memory.work(actions)
+        self.runtime.memory.work(actions)
     }
 }

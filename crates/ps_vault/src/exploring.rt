@@ -3,10 +3,11 @@
 ghost use Rattle.std.specs.Prelude.{◌≡◌, ◌↔◌, ◌⊎◌, ◌++◌, ◌∷◌, [], Any, IsTrue, IfOk, OnOk};
 ghost use Rattle.ps_vault.specs.Endings.{AreEndings, IsAlike};
 
+use crate::jobs::Task;
 use crate::orders::{TurnOrder, run_in_order};
 use crate::reports::{Budget, Report};
 use ps_ctx::deeds::Deeds;
-use ps_ctx_start::start::Setup;
+use ps_ctx::makers::Makers;
 use ps_step_interpreter::interprets::Interpret;
 use std::alloc::{AllocError, Global};
 
@@ -51,30 +52,28 @@ fn keep(endings: &mut Vec<Report>, report: Report) -> Result<(), AllocError>
 /// `AllocError` where a run ended for want of memory, or the room of what is given can't be had.
 pub fn explore<S: Interpret + Clone + Drop, D: Deeds + Clone + Drop, O: TurnOrder>(
     alloc: Global,
-    interpret: &S,
-    deeds: &D,
-    program: &[u8],
+    task: &Task<'_, S, D>,
     budget: Budget,
     runs: u32,
-    setup: Setup,
     order: &mut O,
 ) -> Result<Vec<Report>, AllocError>
     ensures { IfOk result
-        (λ endings. AreEndings S.asks program.now budget.steps
-        (record { output = setup.output; entries = budget.entries }) runs endings.items) }
+        (λ endings. AreEndings S.asks task.now.program.now budget.steps
+        (record { output = task.now.setup.output; entries = budget.entries }) runs endings.items) }
 {
     let mut endings = Vec::new(alloc);
     let mut made = 0;
     while made < runs {
-        let report = run_in_order(
-            alloc,
-            interpret.clone()?,
-            deeds.clone()?,
-            program,
-            budget,
-            setup,
-            order,
-        )?;
+        let makers = Makers {
+            steps: task.makers.steps.clone()?,
+            operators: task.makers.operators.clone()?,
+        };
+        let again = Task {
+            makers,
+            program: task.program,
+            setup: task.setup,
+        };
+        let report = run_in_order(alloc, again, budget, order)?;
         if report.outcome.is_memory() {
             return Err(AllocError);
         }

@@ -8,11 +8,11 @@ ghost use Rattle.ps_vault.specs.Order.{IsNoneAbove};
 ghost use Rattle.ps_vault.specs.Reports.{are_ordinary, IsBounded, IsOneStarved, IsRunOf};
 ghost use Rattle.ps_vault.specs.Stories.{AreWarranted, kept_of, world_at};
 
+use crate::jobs::Task;
 use crate::reports::{Budget, Report, Room};
 use crate::turns::Turn;
 use crate::vaults::Vault;
 use ps_ctx::deeds::Deeds;
-use ps_ctx_start::start::Setup;
 use ps_mem::Memory;
 use ps_mem::marked::plain_with_marks;
 use ps_step_interpreter::interprets::Interpret;
@@ -113,27 +113,16 @@ impl<M: Memory + Drop, S: Interpret + Drop, D: Deeds + Drop> Vault<'_, M, S, D> 
 /// and the report has what was made so far.
 pub fn run_in_order<S: Interpret + Drop, D: Deeds + Drop, O: TurnOrder>(
     alloc: Global,
-    interpret: S,
-    deeds: D,
-    program: &[u8],
+    task: Task<'_, S, D>,
     budget: Budget,
-    setup: Setup,
     order: &mut O,
 ) -> Result<Report, AllocError>
-    ensures run { IfOk result (IsRunOf S.asks program.now budget.steps) }
+    ensures run { IfOk result (IsRunOf S.asks task.entry.program.now budget.steps) }
     ensures bounded { IfOk result
-        (IsBounded (record { output = setup.output; entries = budget.entries })) }
+        (IsBounded (record { output = task.entry.setup.output; entries = budget.entries })) }
 {
     let memory = plain_with_marks(alloc);
-    let mut vault = Vault::new(
-        alloc,
-        memory,
-        interpret,
-        deeds,
-        program,
-        setup,
-        Room::of_run(budget.entries),
-    )?;
+    let mut vault = Vault::new(alloc, memory, task, Room::of_run(budget.entries))?;
     let run = vault.run_by(budget.steps, order);
     Ok(vault.into_run(run, budget.steps))
 }

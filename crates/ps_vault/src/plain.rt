@@ -10,18 +10,17 @@ ghost use Rattle.ps_vault.specs.Reports.{are_ordinary, is_memory, IsOneStarved, 
 ghost use Rattle.ps_vault.specs.Screens.{HasShown};
 ghost use Rattle.ps_vault.specs.Stories.{AreWarranted, kept_of, world_at};
 
+use crate::jobs::Job;
 use crate::reports::{Config, Outcome, Report, Room, RunFault};
 use crate::screens::{NoViewer, Screen, Viewer};
 use crate::turns::Turn;
 use crate::vaults::Vault;
-use ps_core_flips::collected::Counts;
+use ps_core_laws::collected::Counts;
 use ps_ctx::deeds::Deeds;
-use ps_ctx_start::start::Setup;
 use ps_mem::Memory;
 use ps_mem::marked::plain_with_marks;
 use ps_step_interpreter::interprets::Interpret;
 use std::alloc::Global;
-use std::hash::RandomState;
 
 /// Runs a program, over memory that is never collected, for at most so many steps: passes over the
 /// contexts by rising identifier, with a turn of at most a quantum of steps for each that is ready.
@@ -34,26 +33,23 @@ use std::hash::RandomState;
 /// has no room for it.
 pub fn run_plain<S: Interpret + Drop, D: Deeds + Drop>(
     alloc: Global,
-    interpret: S,
-    deeds: D,
-    program: &[u8],
-    config: Config,
-    keys: RandomState,
+    job: Job<'_, S, D>,
 ) -> Result<Report, RunFault>
-    ensures config { (result ≡ Err RunFault.Config) ↔ ¬ IsWithin config }
-    ensures run { IfOk result (IsRunOf S.asks program.now config.steps) }
-    ensures bounded { IfOk result (IsBounded (bounds_of config)) }
-    ensures order { IfOk result (λ report. InOrder config.quantum
-        (starting_world program.now) (moves report.schedule.items)) }
+    ensures config { (result ≡ Err RunFault.Config) ↔ ¬ IsWithin job.entry.config }
+    ensures run { IfOk result (IsRunOf S.asks job.entry.program.now job.entry.config.steps) }
+    ensures bounded { IfOk result (IsBounded (bounds_of job.entry.config)) }
+    ensures order { IfOk result (λ report. InOrder job.entry.config.quantum
+        (starting_world job.entry.program.now) (moves report.schedule.items)) }
     ensures starved { IfOk result (λ report. is_memory report.outcome ≡ true → (context : ℕ)
-        × HasTurn config.quantum (starting_world program.now) context (moves report.schedule.items)
-        × IsStarved S.asks true context false (world program.now report.schedule.items)
+        × HasTurn job.entry.config.quantum (starting_world job.entry.program.now) context
+        (moves report.schedule.items)
+        × IsStarved S.asks true context false (world job.entry.program.now report.schedule.items)
         report.schedule) }
     ensures flips { IfOk result (λ report. report.flips ≡ 0) }
     ensures taken { IfOk result (λ report. report.taken ≡ 0) }
 {
     let mut screen = Screen::new(NoViewer);
-    run_plain_shown(alloc, interpret, deeds, program, config, keys, &mut screen)
+    run_plain_shown(alloc, job, &mut screen)
 }
 
 /// The budget of a run: so many steps, or, where its viewer failed, those that were made.
@@ -70,48 +66,36 @@ fn budget_of(run: Turn, failed: bool, steps: u32) -> u32
 /// the run is cut: it is one with the steps that were made as its budget.
 pub fn run_plain_shown<S: Interpret + Drop, D: Deeds + Drop, V: Viewer + Drop>(
     alloc: Global,
-    interpret: S,
-    deeds: D,
-    program: &[u8],
-    config: Config,
-    keys: RandomState,
+    job: Job<'_, S, D>,
     screen: &mut Screen<V>,
 ) -> Result<Report, RunFault>
     requires nothing { screen.old.shown ≡ 0 }
     requires going { screen.old.failed ≡ false }
-    ensures config { (result ≡ Err RunFault.Config) ↔ ¬ IsWithin config }
-    ensures run { IfOk result (λ report. WithBudget screen.new.failed config.steps
-        (λ budget. IsRunOf S.asks program.now budget report)) }
+    ensures config { (result ≡ Err RunFault.Config) ↔ ¬ IsWithin job.entry.config }
+    ensures run { IfOk result (λ report. WithBudget screen.new.failed job.entry.config.steps
+        (λ budget. IsRunOf S.asks job.entry.program.now budget report)) }
     ensures shown { IfOk result
         (λ report. HasShown screen.old.seen screen.new report.printed.items) }
     ensures unshown { OnErr result (screen.new ≡ screen.old) }
     ensures still { screen.old.watching ≡ false → screen.new ≡ screen.old }
-    ensures bounded { IfOk result (IsBounded (bounds_of config)) }
-    ensures order { IfOk result (λ report. InOrder config.quantum
-        (starting_world program.now) (moves report.schedule.items)) }
+    ensures bounded { IfOk result (IsBounded (bounds_of job.entry.config)) }
+    ensures order { IfOk result (λ report. InOrder job.entry.config.quantum
+        (starting_world job.entry.program.now) (moves report.schedule.items)) }
     ensures starved { IfOk result (λ report. is_memory report.outcome ≡ true → (context : ℕ)
-        × HasTurn config.quantum (starting_world program.now) context (moves report.schedule.items)
-        × IsStarved S.asks true context false (world program.now report.schedule.items)
+        × HasTurn job.entry.config.quantum (starting_world job.entry.program.now) context
+        (moves report.schedule.items)
+        × IsStarved S.asks true context false (world job.entry.program.now report.schedule.items)
         report.schedule) }
     ensures flips { IfOk result (λ report. report.flips ≡ 0) }
     ensures taken { IfOk result (λ report. report.taken ≡ 0) }
 {
+    let config = job.config;
     if !config.is_within() {
         return Err(RunFault::Config);
     }
     let memory = plain_with_marks(alloc);
-    let Ok(mut vault) = Vault::new(
-        alloc,
-        memory,
-        interpret,
-        deeds,
-        program,
-        Setup {
-            keys,
-            output: config.output,
-        },
-        Room::of_run(config.entries),
-    ) else {
+    let Ok(mut vault) = Vault::new(alloc, memory, job.into_task(), Room::of_run(config.entries))
+    else {
         return Err(RunFault::Memory);
     };
     let run = vault.run(config.steps, config.quantum, screen);

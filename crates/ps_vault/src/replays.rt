@@ -11,13 +11,13 @@ ghost use Rattle.ps_vault.specs.Reports.{EndsAs, IsCutOf, IsReplayOf, MayWant, M
 ghost use Rattle.ps_vault.specs.Screens.{HasShown, ShowsOn};
 ghost use Rattle.ps_vault.specs.Stories.{world_at};
 
+use crate::jobs::Task;
 use crate::reports::{Outcome, Report, Room, RunFault};
 use crate::schedules::is_ordinary;
 use crate::screens::{NoViewer, Screen, Viewer};
 use crate::turns::Turn;
 use crate::vaults::{Told, Vault};
 use ps_ctx::deeds::Deeds;
-use ps_ctx_start::start::Setup;
 use ps_language::schedules::Entry;
 use ps_mem::marked::{Marked, plain_with_marks};
 use ps_mem::plain::PlainMemory;
@@ -180,16 +180,14 @@ fn follow_entry<S: Interpret + Drop, D: Deeds + Drop, V: Viewer + Drop>(
 /// starts with can't be had; there is no other.
 pub fn replay<S: Interpret + Drop, D: Deeds + Drop>(
     alloc: Global,
-    interpret: S,
-    deeds: D,
-    program: &[u8],
+    task: Task<'_, S, D>,
     schedule: &[Entry],
-    setup: Setup,
 ) -> Result<Report, RunFault>
     ensures fault { result ≢ Err RunFault.Config }
     ensures prints { IfOk result
-        (λ report. report.printed.items ≡ worlds.printed program.now report.schedule.items) }
-    ensures bounded { IfOk result (λ report. length report.printed.items ≤ setup.output) }
+        (λ report. report.printed.items ≡ worlds.printed task.entry.program.now
+        report.schedule.items) }
+    ensures bounded { IfOk result (λ report. length report.printed.items ≤ task.entry.setup.output) }
     ensures begins { IfOk result (λ report. Begins report.schedule.items schedule.now) }
     ensures whole { IfOk result
         (λ report. is_memory report.outcome ≡ false → report.schedule.items ≡ schedule.now) }
@@ -198,45 +196,35 @@ pub fn replay<S: Interpret + Drop, D: Deeds + Drop>(
         → count_of report.schedule.items < count_of schedule.now) }
     ensures cut { IfOk result (λ report. IsCutOf schedule.now report.schedule.items) }
     ensures ends { IfOk result
-        (λ report. EndsAs (worlds.world program.now report.schedule.items)
+        (λ report. EndsAs (worlds.world task.entry.program.now report.schedule.items)
         (not (is_memory report.outcome))
-        (MayWantNext S.asks program.now schedule.now report.schedule.items) report.outcome) }
+        (MayWantNext S.asks task.entry.program.now schedule.now report.schedule.items)
+        report.outcome) }
     ensures flips { IfOk result (λ report. report.flips ≡ 0) }
     ensures taken { IfOk result (λ report. report.taken ≡ 0) }
 {
     let mut screen = Screen::new(NoViewer);
-    replay_shown(
-        alloc,
-        interpret,
-        deeds,
-        program,
-        schedule,
-        setup,
-        &mut screen,
-    )
+    replay_shown(alloc, task, schedule, &mut screen)
 }
 
 /// As `replay`, but that who watches is shown what is printed, behind each entry and now and then in
 /// a long one. Where that fails the run is cut: it follows the steps that were made.
 pub fn replay_shown<S: Interpret + Drop, D: Deeds + Drop, V: Viewer + Drop>(
     alloc: Global,
-    interpret: S,
-    deeds: D,
-    program: &[u8],
+    task: Task<'_, S, D>,
     schedule: &[Entry],
-    setup: Setup,
     screen: &mut Screen<V>,
 ) -> Result<Report, RunFault>
     requires nothing { screen.old.shown ≡ 0 }
     requires going { screen.old.failed ≡ false }
     ensures fault { result ≢ Err RunFault.Config }
     ensures run { IfOk result (λ report. UnderPart screen.new.failed schedule.now
-        (λ part. IsReplayOf S.asks program.now part report)) }
+        (λ part. IsReplayOf S.asks task.entry.program.now part report)) }
     ensures shown { IfOk result
         (λ report. HasShown screen.old.seen screen.new report.printed.items) }
     ensures unshown { OnErr result (screen.new ≡ screen.old) }
     ensures still { screen.old.watching ≡ false → screen.new ≡ screen.old }
-    ensures bounded { IfOk result (λ report. length report.printed.items ≤ setup.output) }
+    ensures bounded { IfOk result (λ report. length report.printed.items ≤ task.entry.setup.output) }
 {
     let Some(twice) = schedule.len().checked_mul(2) else {
         return Err(RunFault::Memory);
@@ -249,7 +237,7 @@ pub fn replay_shown<S: Interpret + Drop, D: Deeds + Drop, V: Viewer + Drop>(
         first: entries,
         most: entries as u64,
     };
-    let Ok(mut vault) = Vault::new(alloc, memory, interpret, deeds, program, setup, room) else {
+    let Ok(mut vault) = Vault::new(alloc, memory, task, room) else {
         return Err(RunFault::Memory);
     };
     let Ok(mut followed) = Schedule::with_capacity(alloc, entries, entries as u64) else {

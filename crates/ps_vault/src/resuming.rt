@@ -9,49 +9,35 @@ ghost use Rattle.ps_vault.specs.Reports.{are_ordinary, IsOneStarved, IsRunOf, Is
 ghost use Rattle.ps_vault.specs.Stories.{AreWarranted, kept_of, world_at};
 
 use crate::guides::Guide;
+use crate::jobs::Job;
 use crate::reports::{Config, Report, Room, RunFault};
 use crate::turns::Turn;
 use crate::vaults::Vault;
 use ps_ctx::deeds::Deeds;
-use ps_ctx_start::start::Setup;
 use ps_language::schedules::Entry;
 use ps_mem::Memory;
 use ps_mem::marked::plain_with_marks;
 use ps_step_interpreter::interprets::Interpret;
 use std::alloc::Global;
-use std::hash::RandomState;
 
 /// As `run_plain`, but that the turns are of the contexts that a schedule has, as long as each is
 /// ready, and then go on behind the last of them. Only the order of contexts is taken from it.
 pub fn run_plain_behind<S: Interpret + Drop, D: Deeds + Drop>(
     alloc: Global,
-    interpret: S,
-    deeds: D,
-    program: &[u8],
-    config: Config,
-    keys: RandomState,
+    job: Job<'_, S, D>,
     given: &[Entry],
 ) -> Result<Report, RunFault>
-    ensures config { (result ≡ Err RunFault.Config) ↔ ¬ IsWithin config }
-    ensures run { IfOk result (IsRunOf S.asks program.now config.steps) }
-    ensures bounded { IfOk result (IsBounded (bounds_of config)) }
+    ensures config { (result ≡ Err RunFault.Config) ↔ ¬ IsWithin job.entry.config }
+    ensures run { IfOk result (IsRunOf S.asks job.entry.program.now job.entry.config.steps) }
+    ensures bounded { IfOk result (IsBounded (bounds_of job.entry.config)) }
 {
+    let config = job.config;
     if !config.is_within() {
         return Err(RunFault::Config);
     }
     let memory = plain_with_marks(alloc);
-    let Ok(mut vault) = Vault::new(
-        alloc,
-        memory,
-        interpret,
-        deeds,
-        program,
-        Setup {
-            keys,
-            output: config.output,
-        },
-        Room::of_run(config.entries),
-    ) else {
+    let Ok(mut vault) = Vault::new(alloc, memory, job.into_task(), Room::of_run(config.entries))
+    else {
         return Err(RunFault::Memory);
     };
     let run = vault.run_behind(config.steps, config.quantum, given);

@@ -194,7 +194,7 @@ impl<M: Memory + Drop, S: Interpret + Drop, D: Deeds + Drop> Vault<'_, M, S, D> 
     pub fn printed(&self) -> &[u8]
         ensures { result.now ≡ (world_at self.now).printed }
     {
-        self.world.contexts.shared.printed.as_slice()
+        self.runtime.shared.printed.as_slice()
     }
 
     /// Shows a viewer what was printed behind the bytes that it was shown, if it watches. False:

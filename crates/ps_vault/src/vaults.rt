@@ -19,19 +19,19 @@ ghost use Rattle.ps_vault.specs.Stories.{Story, HasRoom, MayGo, AreWarranted, ke
 ghost use Rattle.ps_vault.specs.Warrants.{AddsShown, IsStatus};
 ghost use Rattle.ps_ctx.specs.Steps.{words_shown};
 
+use crate::jobs::Task;
 use crate::reports::{Outcome, Report, Room};
 use crate::schedules::kept;
-use ps_core_flips::collected::Counts;
+use ps_core_laws::collected::Counts;
 use ps_ctx::deeds::Deeds;
+use ps_ctx::makers::Makers;
 use ps_ctx::notes::Note;
 use ps_ctx::runs::Advance;
 use ps_ctx::starts::start_world;
 use ps_ctx::worlds::World;
-use ps_ctx_start::start::Setup;
-use ps_ctx_table::contexts::Contexts;
 use ps_mem::{Memory, Slot};
 use ps_ops_operands::failure::NotMade;
-use ps_ops_state::lent::{Shared, Trial};
+use ps_ops_state::lent::{Attempt, Runtime, Shared};
 use ps_run_schedules::Schedule;
 use ps_step_interpreter::interprets::Interpret;
 use std::alloc::{AllocError, Global};
@@ -43,40 +43,39 @@ use std::marker::Model;
 /// stands was moved, whether a cycle of the collector is open, and which logs are closed.
 #[derive(Drop)]
 pub struct Vault<'a, M: Memory + Drop, S: Interpret + Drop, D: Deeds + Drop> {
-    interpret: S,
-    deeds: D,
-    pub(crate) world: World<'a>,
-    pub(crate) memory: M,
+    makers: Makers<S, D>,
+    pub(crate) world: World,
+    pub(crate) runtime: Runtime<'a, M>,
     schedule: Schedule,
 }
 
 impl<'a, M: Memory + Drop, S: Interpret + Drop, D: Deeds + Drop> Model for Vault<'a, M, S, D> {
     ghost use Rattle.std.specs.Prelude.{option_map};
     ghost use Rattle.ps_run_schedules.specs.Keeping.{most_of};
-    ghost use Rattle.ps_ctx.specs.Calls.{over};
+    ghost use Rattle.ps_ctx.specs.Calls.{over_of};
     ghost use Rattle.ps_ctx.specs.Held.{held};
     ghost use Rattle.ps_vault.specs.Stories.{Story, Keeps, logs_closed};
 
     ghost Value = { Story };
 
     ghost view = { λ v. record {
-      program = v.world.contexts.shared.program.now;
+      program = v.runtime.shared.program.now;
       most = record {
-        output = v.world.contexts.shared.printed.most;
+        output = v.runtime.shared.printed.most;
         entries = most_of v.schedule;
       };
       schedule = v.schedule.items;
       capacity = v.schedule.capacity;
       caller = option_map (λ calling. calling.caller) v.world.calling;
-      space = (M.heap v.memory).space.size;
-      used = (M.heap v.memory).used;
-      flips = (M.heap v.memory).space.flips;
-      cycle_open = (M.grants v.memory).cycle_open;
-      closed = logs_closed (M.grants v.memory).closed;
+      space = (M.heap v.runtime.memory).space.size;
+      used = (M.heap v.runtime.memory).used;
+      flips = (M.heap v.runtime.memory).space.flips;
+      cycle_open = (M.grants v.runtime.memory).cycle_open;
+      closed = logs_closed (M.grants v.runtime.memory).closed;
     } };
 
-    ghost invariant = { λ v. Keeps (held (over (M.heap v.memory) (M.grants v.memory)
-        v.world.contexts) v.world.calling) v.schedule.items };
+    ghost invariant = { λ v. Keeps (held (over_of M.heap M.grants v.runtime v.world.contexts)
+        v.world.calling) v.schedule.items };
 }
 
 /// What steps of a context came to.
@@ -139,15 +138,12 @@ impl<'a, M: Memory + Drop, S: Interpret + Drop, D: Deeds + Drop> Vault<'a, M, S,
     pub fn new(
         alloc: Global,
         mut memory: M,
-        interpret: S,
-        deeds: D,
-        program: &'a [u8],
-        setup: Setup,
+        task: Task<'a, S, D>,
         room: Room,
     ) -> Result<Vault<'a, M, S, D>, AllocError>
         requires empty { IsEmptyHeap (M.heap memory) }
-        ensures program { IfOk result (λ vault. vault.program ≡ program.now) }
-        ensures most { IfOk result (λ vault. vault.most.output ≡ setup.output) }
+        ensures program { IfOk result (λ vault. vault.program ≡ task.entry.program.now) }
+        ensures most { IfOk result (λ vault. vault.most.output ≡ task.entry.setup.output) }
         ensures schedule { IfOk result (λ vault. vault.schedule ≡ []) }
         ensures entries { IfOk result (λ vault. vault.most.entries ≡ room.most) }
         ensures room { IfOk result (λ vault. room.first ≤ vault.capacity) }
@@ -155,15 +151,19 @@ impl<'a, M: Memory + Drop, S: Interpret + Drop, D: Deeds + Drop> Vault<'a, M, S,
         ensures space { IfOk result (λ vault. vault.space ≡ (M.heap memory).space.size) }
         ensures flips { IfOk result (λ vault. vault.flips ≡ (M.heap memory).space.flips) }
     {
-        let Ok(world) = start_world(alloc, &mut memory, program, setup) else {
+        let Task {
+            makers,
+            program,
+            setup,
+        } = task;
+        let Ok((world, shared)) = start_world(alloc, &mut memory, program, setup) else {
             return Err(AllocError);
         };
         let schedule = Schedule::with_capacity(alloc, room.first, room.most)?;
         Ok(Vault {
-            interpret,
-            deeds,
+            makers,
             world,
-            memory,
+            runtime: Runtime { shared, memory },
             schedule,
         })
     }
@@ -177,8 +177,8 @@ impl<M: Memory + Drop, S: Interpret + Drop, D: Deeds + Drop> Vault<'_, M, S, D> 
         ensures same { self.new ≡ self.old }
         ensures ready { result ≡ locks.is_ready (world_at self.old) context }
     {
-        self.deeds
-            .is_ready(context, &self.world.contexts, &mut self.memory)
+        let operators = &self.makers.operators;
+        operators.is_ready(context, &self.world.contexts, &mut self.runtime)
     }
 
     /// The context whose call waits, since it could not be made: no other makes a step before it.
@@ -220,7 +220,7 @@ impl<M: Memory + Drop, S: Interpret + Drop, D: Deeds + Drop> Vault<'_, M, S, D> 
         ensures same { self.new ≡ self.old }
         ensures is { result ≡ self.old.used }
     {
-        self.memory.used()
+        self.runtime.memory.used()
     }
 
     /// Whether more than half is used of what was free of the space while so many words were used.
@@ -228,7 +228,7 @@ impl<M: Memory + Drop, S: Interpret + Drop, D: Deeds + Drop> Vault<'_, M, S, D> 
         ensures same { self.new ≡ self.old }
         ensures half { IsTrue result ↔ kept / 2 + self.old.space / 2 < self.old.used }
     {
-        self.memory.used() > kept / 2 + self.memory.size() / 2
+        self.runtime.memory.used() > kept / 2 + self.runtime.memory.size() / 2
     }
 
     /// Room in the schedule for steps of a context. `AllocError`: it can't be had, or the schedule has
@@ -294,18 +294,11 @@ impl<M: Memory + Drop, S: Interpret + Drop, D: Deeds + Drop> Vault<'_, M, S, D> 
             (IsHeldUp M.heap M.grants S.asks context refused self.new) }
         ensures room { IfErr result (IfForRoom refused self.new context) }
     {
-        let trial = Trial {
+        let attempt = Attempt {
             slot: slot_of(context),
             refused,
         };
-        let told = self.world.step(
-            &mut self.interpret,
-            &mut self.deeds,
-            &mut self.memory,
-            context,
-            trial,
-            shown,
-        );
+        let told = self.world.step(&mut self.makers, &mut self.runtime, context, attempt, shown);
         match told {
             Ok(_) => {
                 self.schedule.note(context, refused, shown);
@@ -369,9 +362,8 @@ impl<M: Memory + Drop, S: Interpret + Drop, D: Deeds + Drop> Vault<'_, M, S, D> 
     {
         let most = most.min(self.schedule.free_steps(context));
         let Advance { made, next } = self.world.go_on(
-            &mut self.interpret,
-            &mut self.deeds,
-            &mut self.memory,
+            &mut self.makers,
+            &mut self.runtime,
             context,
             slot_of(context),
             most,
@@ -445,9 +437,8 @@ impl<M: Memory + Drop, S: Interpret + Drop, D: Deeds + Drop> Vault<'_, M, S, D> 
         ensures printed { result.items ≡ (world_at self.entry).printed }
         ensures bounded { length result.items ≤ self.entry.most.output }
     {
-        let Vault { world, .. } = self;
-        let World { contexts, .. } = world;
-        let Contexts { shared, .. } = contexts;
+        let Vault { runtime, .. } = self;
+        let Runtime { shared, .. } = runtime;
         let Shared { printed, .. } = shared;
         printed.into_bytes()
     }
@@ -469,12 +460,11 @@ impl<M: Memory + Drop, S: Interpret + Drop, D: Deeds + Drop> Vault<'_, M, S, D> 
         ensures taken { result.taken ≡ counts.taken }
     {
         let Vault {
-            world,
+            runtime,
             schedule,
             ..
         } = self;
-        let World { contexts, .. } = world;
-        let Contexts { shared, .. } = contexts;
+        let Runtime { shared, .. } = runtime;
         let Shared { printed, .. } = shared;
         Report {
             printed: printed.into_bytes(),

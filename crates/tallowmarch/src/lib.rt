@@ -12,9 +12,10 @@ ghost use Rattle.ps_vault.specs.declared.reports.Report.{Report};
 ghost use Rattle.ps_run_hosts.specs.declared.hosting.Refusal.{Refusal};
 ghost use Rattle.ps_run_hosts.specs.Hosts.{given_entry, IsFollowed, IsGoneOn, IsHandedOut, IsMade};
 
+use ps_ctx::makers::Makers;
 use ps_ctx_operators::operators::WorldOperators;
 use ps_ops::operators::Operators;
-use ps_run_hosts::{Counts, HostEntry, Makers, Settings, go_on_for, hand_out, replay_for, run_for};
+use ps_run_hosts::{HostCounts, HostEntry, Settings, go_on_for, hand_out, replay_for, run_for};
 use ps_step::steps::Steps;
 use ps_step_interpreter::interprets::Interpret;
 use std::alloc::Global;
@@ -34,11 +35,11 @@ pub extern "C" fn tallowmarch_version() -> u32
 /// Who makes the steps and does the operators of the language.
 fn makers(alloc: Global) -> Makers<Steps<Operators>, WorldOperators> {
     Makers {
-        interpret: Steps {
+        steps: Steps {
             operators: Operators,
             text: Vec::new(alloc),
         },
-        deeds: WorldOperators { alloc },
+        operators: WorldOperators { alloc },
     }
 }
 
@@ -56,7 +57,7 @@ pub extern "C" fn tallowmarch_run(
     settings: &Settings,
     printed: &mut [u8],
     schedule: &mut [HostEntry],
-    counts: &mut Counts,
+    counts: &mut HostCounts,
 ) -> u32
     ensures { (made : Result Report Refusal)
         × IsMade ⟦<Steps<Operators> as Interpret>⟧.asks program.now settings.now made
@@ -81,7 +82,7 @@ pub extern "C" fn tallowmarch_go_on(
     given: &[HostEntry],
     printed: &mut [u8],
     schedule: &mut [HostEntry],
-    counts: &mut Counts,
+    counts: &mut HostCounts,
 ) -> u32
     ensures { (made : Result Report Refusal)
         × IsGoneOn ⟦<Steps<Operators> as Interpret>⟧.asks program.now settings.now
@@ -107,7 +108,7 @@ pub extern "C" fn tallowmarch_replay(
     given: &[HostEntry],
     printed: &mut [u8],
     schedule: &mut [HostEntry],
-    counts: &mut Counts,
+    counts: &mut HostCounts,
 ) -> u32
     ensures { (made : Result Report Refusal)
         × IsFollowed ⟦<Steps<Operators> as Interpret>⟧.asks program.now settings.now

@@ -3,11 +3,11 @@ use Rattle.std.proofs.Common.{sym, subst}
 use Rattle.std.specs.Prelude.{Result}
 use Rattle.ps_language.specs.declared.operators.Operator.TheVariants.{Lock}
 use Rattle.ps_ops_state.specs.declared.breaks.Break.{Break}
-use Rattle.ps_ops_state.specs.Lent.{Lent, lent}
+use Rattle.ps_ops_state.specs.Lent.{Lent, lent_of}
 use Rattle.ps_ctx_table.specs.declared.members.Member.{Member}
 use Rattle.ps_ctx_table.specs.Desks.{Desk, desk_unmade}
 use Rattle.ps_ctx.specs.declared.notes.Note.{Note}
-use Rattle.ps_ctx.specs.Calls.{over}
+use Rattle.ps_ctx.specs.Calls.{over_of}
 use Rattle.ps_ctx_operators.specs.Done.{DoesBy}
 use Rattle.ps_ctx_operators.proofs.AloneDone.{lock_does}
 use Rattle.ps_ctx_operators.proofs.Ending.{runs_by}
@@ -15,15 +15,13 @@ use Rattle.ps_ctx_operators.proofs.callers.new_lock.Goals as goal
 
 pub returns : goal.returns
 returns g c = λ shown.
-    let d : Desk = over (g.M.Memory.heap c.args.memory.now) (g.M.Memory.grants c.args.memory.now)
+    let d : Desk = over_of g.M.Memory.heap g.M.Memory.grants c.args.runtime.now
     c.args.contexts.now in
-    let new : Lent = lent (g.M.Memory.heap c.new_lock-outcome.new.memory)
-    (g.M.Memory.grants c.new_lock-outcome.new.memory) c.new_lock-outcome.new.context
-    c.new_lock-outcome.new.shared in
+    let new : Lent = lent_of g.M.Memory.heap g.M.Memory.grants c.new_lock-outcome.new.context c.new_lock-outcome.new.runtime in
     let member : Member = c.get_mut-member.result.now in
     let found = sym c.get_mut-member.ensures.value in
-    subst (λ (result : Result Note Break). DoesBy Lock c.args.caller c.args.trial shown result d
+    subst (λ (result : Result Note Break). DoesBy Lock c.args.caller c.args.attempt shown result d
     (desk_unmade d c.args.caller member new)) (sym c.noted.ensures)
-    (lock_does c.args.caller c.args.trial shown d c.requires.steady member found
+    (lock_does c.args.caller c.args.attempt shown d c.requires.steady member found
     (runs_by d.members c.args.caller member found c.requires.runs) new c.new_lock-outcome.result
     c.new_lock-outcome.ensures.acts)

@@ -1,44 +1,40 @@
 -- The error of an operator is noted, or is not.
 use Rattle.std.proofs.Common.{Ok, sym, subst}
-use Rattle.ps_ops_state.specs.Lent.{Lent, lent}
+use Rattle.ps_ops_state.specs.Lent.{Lent, lent_of}
 use Rattle.ps_ctx_table.specs.declared.members.Member.{Member}
 use Rattle.ps_ctx_table.specs.Desks.{Desk, desk_turned}
 use Rattle.ps_ctx_table.proofs.Settled.{desk_settled}
 use Rattle.ps_step_outcome.specs.declared.turned.Turned.{Turned}
 use Rattle.ps_ctx.specs.declared.notes.Note.TheVariants.{Nothing}
-use Rattle.ps_ctx.specs.Calls.{over, Calls}
+use Rattle.ps_ctx.specs.Calls.{Calls, over_of}
 use Rattle.ps_ctx_operators.proofs.Ending.{runs_by, raised, unraised}
 use Rattle.ps_ctx_operators.proofs.endings.raise.Goals as goal
 
 pub returns-in-Ok : goal.returns-in-Ok
 returns-in-Ok g c = λ shown before done.
-    let d : Desk = over (g.M.Memory.heap c.args.memory.now) (g.M.Memory.grants c.args.memory.now)
+    let d : Desk = over_of g.M.Memory.heap g.M.Memory.grants c.args.runtime.now
     c.args.contexts.now in
-    let new : Lent = lent (g.M.Memory.heap c.raise_by.new.memory)
-    (g.M.Memory.grants c.raise_by.new.memory) c.raise_by.new.context c.raise_by.new.shared in
+    let new : Lent = lent_of g.M.Memory.heap g.M.Memory.grants c.raise_by.new.context c.raise_by.new.runtime in
     let member : Member = c.get_mut-member.result.now in
     let found = sym c.get_mut-member.ensures.value in
-    subst (λ (one : Desk). Calls c.args.operator c.args.caller c.args.trial shown (Ok Nothing)
+    subst (λ (one : Desk). Calls c.args.calling.operator c.args.calling.caller c.args.attempt shown (Ok Nothing)
     before one) (sym (desk_settled new.heap new.grants c.args.contexts.now.table
-    c.settle.new.self.table c.args.caller member
-    (record member { context = c.raise_by.new.context }) c.raise_by.new.shared
-    c.settle.new.self.shared c.args.contexts.now.has_faulted c.settle.new.self.has_faulted
-    c.own_of.result found c.settle.ensures.table c.settle.ensures.shared
-    c.settle.ensures.faulted))
-    (subst (λ (t : Turned). Calls c.args.operator c.args.caller c.args.trial shown (Ok Nothing)
-    before (desk_turned d c.args.caller member new t)) (sym c.own_of.ensures)
-    (raised c.args.operator c.args.caller c.args.trial shown before d member found
-    (runs_by d.members c.args.caller member found c.requires.runs) c.requires.steady c.args.error
+    c.settle.new.self.table c.args.calling.caller member
+    (record member { context = c.raise_by.new.context }) c.raise_by.new.runtime.shared c.args.contexts.now.has_faulted c.settle.new.self.has_faulted
+    c.own_of.result found c.settle.ensures.table c.settle.ensures.faulted))
+    (subst (λ (t : Turned). Calls c.args.calling.operator c.args.calling.caller c.args.attempt shown (Ok Nothing)
+    before (desk_turned d c.args.calling.caller member new t)) (sym c.own_of.ensures)
+    (raised c.args.calling.operator c.args.calling.caller c.args.attempt shown before d member found
+    (runs_by d.members c.args.calling.caller member found c.requires.runs) c.requires.steady c.args.error
     new done c.in-Ok.turned c.in-Ok.ensures))
 
 pub returns-in-Err : goal.returns-in-Err
 returns-in-Err g c = λ shown before done.
-    let d : Desk = over (g.M.Memory.heap c.args.memory.now) (g.M.Memory.grants c.args.memory.now)
+    let d : Desk = over_of g.M.Memory.heap g.M.Memory.grants c.args.runtime.now
     c.args.contexts.now in
-    let new : Lent = lent (g.M.Memory.heap c.raise_by.new.memory)
-    (g.M.Memory.grants c.raise_by.new.memory) c.raise_by.new.context c.raise_by.new.shared in
+    let new : Lent = lent_of g.M.Memory.heap g.M.Memory.grants c.raise_by.new.context c.raise_by.new.runtime in
     let member : Member = c.get_mut-member.result.now in
     let found = sym c.get_mut-member.ensures.value in
-    unraised c.args.operator c.args.caller c.args.trial shown before d member found
-    (runs_by d.members c.args.caller member found c.requires.runs) c.requires.steady c.args.error
+    unraised c.args.calling.operator c.args.calling.caller c.args.attempt shown before d member found
+    (runs_by d.members c.args.calling.caller member found c.requires.runs) c.requires.steady c.args.error
     new done c.in-Err.reason c.in-Err.ensures

@@ -1,9 +1,9 @@
 -- The procedure is entered, the caller is to try again, or its error is noted.
 use Rattle.std.proofs.Common.{sym, ap}
-use Rattle.ps_ops_state.specs.Lent.{Lent, lent}
+use Rattle.ps_ops_state.specs.Lent.{Lent, lent_of}
 use Rattle.ps_ctx_table.specs.declared.members.Member.{Member}
 use Rattle.ps_ctx_table.specs.Desks.{Desk}
-use Rattle.ps_ctx.specs.Calls.{over}
+use Rattle.ps_ctx.specs.Calls.{over_of}
 use Rattle.ps_ctx_operators.specs.Monitors.{waits_by}
 use Rattle.ps_ctx_operators.proofs.Ending.{runs_by}
 use Rattle.ps_ctx_operators.proofs.MonitorDone.{entered, unentered, tries_again}
@@ -11,90 +11,83 @@ use Rattle.ps_ctx_operators.proofs.entering.call_monitor.Goals as goal
 
 pub returns-in-Ok-Waits : goal.returns-in-Ok-Waits
 returns-in-Ok-Waits g c =
-    let d : Desk = over (g.M.Memory.heap c.args.memory.now) (g.M.Memory.grants c.args.memory.now)
+    let d : Desk = over_of g.M.Memory.heap g.M.Memory.grants c.args.runtime.now
     c.args.contexts.now in
-    let new : Lent = lent (g.M.Memory.heap c.monitor.new.memory)
-    (g.M.Memory.grants c.monitor.new.memory) c.monitor.new.context c.monitor.new.shared in
+    let new : Lent = lent_of g.M.Memory.heap g.M.Memory.grants c.monitor.new.context c.monitor.new.runtime in
     let member : Member = c.get_mut-member.result.now in
     let found = sym c.get_mut-member.ensures.value in
     let runs = runs_by d.members c.args.caller member found c.requires.runs in
-    tries_again c.args.caller c.args.trial c.args.shown d c.requires.steady member found runs new
+    tries_again c.args.caller c.args.attempt c.args.shown d c.requires.steady member found runs new
     c.in-Ok-Waits.field-0 (ap waits_by c.in-Ok-Waits.field-0-is) c.in-Ok-Waits.ensures.entered
     c.in-Ok-Waits.ensures.acts
 
 pub end-requires-clause-runs : goal.end-requires-clause-runs
 end-requires-clause-runs g c =
-    let d : Desk = over (g.M.Memory.heap c.args.memory.now) (g.M.Memory.grants c.args.memory.now)
+    let d : Desk = over_of g.M.Memory.heap g.M.Memory.grants c.args.runtime.now
     c.args.contexts.now in
-    let new : Lent = lent (g.M.Memory.heap c.monitor.new.memory)
-    (g.M.Memory.grants c.monitor.new.memory) c.monitor.new.context c.monitor.new.shared in
+    let new : Lent = lent_of g.M.Memory.heap g.M.Memory.grants c.monitor.new.context c.monitor.new.runtime in
     let member : Member = c.get_mut-member.result.now in
     let found = sym c.get_mut-member.ensures.value in
     let runs = runs_by d.members c.args.caller member found c.requires.runs in
-    (entered c.args.caller c.args.trial c.args.shown d c.requires.steady member found runs new
+    (entered c.args.caller c.args.attempt c.args.shown d c.requires.steady member found runs new
     c.in-Ok-Enters.field-0 (ap waits_by c.in-Ok-Enters.field-0-is) c.in-Ok-Enters.ensures.entered
     c.in-Ok-Enters.ensures.acts).runs
 
 pub end-requires-clause-steady : goal.end-requires-clause-steady
 end-requires-clause-steady g c =
-    let d : Desk = over (g.M.Memory.heap c.args.memory.now) (g.M.Memory.grants c.args.memory.now)
+    let d : Desk = over_of g.M.Memory.heap g.M.Memory.grants c.args.runtime.now
     c.args.contexts.now in
-    let new : Lent = lent (g.M.Memory.heap c.monitor.new.memory)
-    (g.M.Memory.grants c.monitor.new.memory) c.monitor.new.context c.monitor.new.shared in
+    let new : Lent = lent_of g.M.Memory.heap g.M.Memory.grants c.monitor.new.context c.monitor.new.runtime in
     let member : Member = c.get_mut-member.result.now in
     let found = sym c.get_mut-member.ensures.value in
     let runs = runs_by d.members c.args.caller member found c.requires.runs in
-    (entered c.args.caller c.args.trial c.args.shown d c.requires.steady member found runs new
+    (entered c.args.caller c.args.attempt c.args.shown d c.requires.steady member found runs new
     c.in-Ok-Enters.field-0 (ap waits_by c.in-Ok-Enters.field-0-is) c.in-Ok-Enters.ensures.entered
     c.in-Ok-Enters.ensures.acts).steady
 
 pub returns-in-Ok-Enters : goal.returns-in-Ok-Enters
 returns-in-Ok-Enters g c =
-    let d : Desk = over (g.M.Memory.heap c.args.memory.now) (g.M.Memory.grants c.args.memory.now)
+    let d : Desk = over_of g.M.Memory.heap g.M.Memory.grants c.args.runtime.now
     c.args.contexts.now in
-    let new : Lent = lent (g.M.Memory.heap c.monitor.new.memory)
-    (g.M.Memory.grants c.monitor.new.memory) c.monitor.new.context c.monitor.new.shared in
+    let new : Lent = lent_of g.M.Memory.heap g.M.Memory.grants c.monitor.new.context c.monitor.new.runtime in
     let member : Member = c.get_mut-member.result.now in
     let found = sym c.get_mut-member.ensures.value in
     let runs = runs_by d.members c.args.caller member found c.requires.runs in
     c.end.ensures c.args.shown d
-    (entered c.args.caller c.args.trial c.args.shown d c.requires.steady member found runs new
+    (entered c.args.caller c.args.attempt c.args.shown d c.requires.steady member found runs new
     c.in-Ok-Enters.field-0 (ap waits_by c.in-Ok-Enters.field-0-is) c.in-Ok-Enters.ensures.entered
     c.in-Ok-Enters.ensures.acts)
 
 pub end-requires-in-Err-clause-runs : goal.end-requires-in-Err-clause-runs
 end-requires-in-Err-clause-runs g c =
-    let d : Desk = over (g.M.Memory.heap c.args.memory.now) (g.M.Memory.grants c.args.memory.now)
+    let d : Desk = over_of g.M.Memory.heap g.M.Memory.grants c.args.runtime.now
     c.args.contexts.now in
-    let new : Lent = lent (g.M.Memory.heap c.monitor.new.memory)
-    (g.M.Memory.grants c.monitor.new.memory) c.monitor.new.context c.monitor.new.shared in
+    let new : Lent = lent_of g.M.Memory.heap g.M.Memory.grants c.monitor.new.context c.monitor.new.runtime in
     let member : Member = c.get_mut-member.result.now in
     let found = sym c.get_mut-member.ensures.value in
     let runs = runs_by d.members c.args.caller member found c.requires.runs in
-    (unentered c.args.caller c.args.trial c.args.shown d c.requires.steady member found runs new
+    (unentered c.args.caller c.args.attempt c.args.shown d c.requires.steady member found runs new
     c.in-Err.why c.in-Err.ensures.acts).runs
 
 pub end-requires-in-Err-clause-steady : goal.end-requires-in-Err-clause-steady
 end-requires-in-Err-clause-steady g c =
-    let d : Desk = over (g.M.Memory.heap c.args.memory.now) (g.M.Memory.grants c.args.memory.now)
+    let d : Desk = over_of g.M.Memory.heap g.M.Memory.grants c.args.runtime.now
     c.args.contexts.now in
-    let new : Lent = lent (g.M.Memory.heap c.monitor.new.memory)
-    (g.M.Memory.grants c.monitor.new.memory) c.monitor.new.context c.monitor.new.shared in
+    let new : Lent = lent_of g.M.Memory.heap g.M.Memory.grants c.monitor.new.context c.monitor.new.runtime in
     let member : Member = c.get_mut-member.result.now in
     let found = sym c.get_mut-member.ensures.value in
     let runs = runs_by d.members c.args.caller member found c.requires.runs in
-    (unentered c.args.caller c.args.trial c.args.shown d c.requires.steady member found runs new
+    (unentered c.args.caller c.args.attempt c.args.shown d c.requires.steady member found runs new
     c.in-Err.why c.in-Err.ensures.acts).steady
 
 pub returns-in-Err : goal.returns-in-Err
 returns-in-Err g c =
-    let d : Desk = over (g.M.Memory.heap c.args.memory.now) (g.M.Memory.grants c.args.memory.now)
+    let d : Desk = over_of g.M.Memory.heap g.M.Memory.grants c.args.runtime.now
     c.args.contexts.now in
-    let new : Lent = lent (g.M.Memory.heap c.monitor.new.memory)
-    (g.M.Memory.grants c.monitor.new.memory) c.monitor.new.context c.monitor.new.shared in
+    let new : Lent = lent_of g.M.Memory.heap g.M.Memory.grants c.monitor.new.context c.monitor.new.runtime in
     let member : Member = c.get_mut-member.result.now in
     let found = sym c.get_mut-member.ensures.value in
     let runs = runs_by d.members c.args.caller member found c.requires.runs in
     c.end-in-Err.ensures c.args.shown d
-    (unentered c.args.caller c.args.trial c.args.shown d c.requires.steady member found runs new
+    (unentered c.args.caller c.args.attempt c.args.shown d c.requires.steady member found runs new
     c.in-Err.why c.in-Err.ensures.acts)

@@ -5,6 +5,6 @@ use Rattle.ps_ctx_operators.proofs.joins.join.Goals as goal
 pub returns : goal.returns
 returns g c = rw (c.made.ensures)
     (record {
-      acts = λ trial. joins_acts _ c.requires.good trial _ _ c.requires.taken
+      acts = λ attempt. joins_acts _ c.requires.good attempt _ _ c.requires.taken
           c.take_operands.ensures.kept _ c.take_operands.ensures.row;
     })

@@ -5,7 +5,7 @@ use Rattle.ps_language.specs.declared.errors.ErrorName.TheVariants.{InvalidConte
 use Rattle.ps_mem.specs.Shows.{IsValue}
 use Rattle.ps_dict.proofs.Granted.{store-used}
 use Rattle.ps_ops_operands.proofs.Held.{first_of_two_held, second_held}
-use Rattle.ps_ops_state.specs.Lent.{Lent, lent}
+use Rattle.ps_ops_state.specs.Lent.{Lent, lent_of}
 use Rattle.ps_ops_state.proofs.Acting.{raised_acts, wanting_acts}
 use Rattle.ps_ops_state.proofs.Meeting.{at_least-same}
 use Rattle.ps_step_outcome.proofs.Noting.{logs_asked, logs_changed}
@@ -18,7 +18,7 @@ use Rattle.ps_ctx_operators.proofs.monitors.monitor.Goals as goal
 pub returns-then-owned_by-caller-clause-acts : goal.returns-then-owned_by-caller-clause-acts
 returns-then-owned_by-caller-clause-acts g c =
     rw (c.owner-owned_by.ensures.heap, c.owner-owned_by.ensures.grants)
-    (raised_acts _ c.args.trial _ _ c.requires.good InvalidContext
+    (raised_acts _ c.args.attempt _ _ c.requires.good InvalidContext
     (part_raises _ c.args.caller InvalidContext
     (monitor_own _ _ _ c.in-Some.ensures c.args.caller c.in-Some-procedure_of.body
     c.in-Some-procedure_of.ensures.part c.in-Some-lock_of.lock c.in-Some-lock_of.ensures.value
@@ -30,7 +30,7 @@ returns-then-owned_by-caller-clause-acts g c =
 pub returns-then-owned_by-ne0-clause-acts : goal.returns-then-owned_by-ne0-clause-acts
 returns-then-owned_by-ne0-clause-acts g c =
     rw (c.owner-owned_by.ensures.heap, c.owner-owned_by.ensures.grants)
-    (waits_acts _ c.requires.good c.args.trial c.args.caller
+    (waits_acts _ c.requires.good c.args.attempt c.args.caller
     (monitor_waits _ _ _ c.in-Some.ensures c.args.caller c.in-Some-procedure_of.body
     c.in-Some-procedure_of.ensures.part c.in-Some-lock_of.lock c.in-Some-lock_of.ensures.value
     (sym c.is_executable.ensures ∙ c.if-not-is_executable.false) c.owner-owned_by.result
@@ -56,7 +56,7 @@ returns-then-len-monitored_count-clause-acts g c =
     let size = c.len.ensures.count in
     let over = c.if-len-monitored_count.true in
     rw (c.owner-owned_by.ensures.heap, c.owner-owned_by.ensures.grants)
-    (raised_acts _ c.args.trial _ _ c.requires.good ExecStackOverflow
+    (raised_acts _ c.args.attempt _ _ c.requires.good ExecStackOverflow
     (part_raises _ c.args.caller ExecStackOverflow
     (monitor_full _ _ _ c.in-Some.ensures c.args.caller c.in-Some-procedure_of.body
     c.in-Some-procedure_of.ensures.part c.in-Some-lock_of.lock c.in-Some-lock_of.ensures.value
@@ -68,8 +68,7 @@ returns-then-len-monitored_count-clause-acts g c =
 
 pub returns-in-Err-clause-acts : goal.returns-in-Err-clause-acts
 returns-in-Err-clause-acts g c =
-    let l : Lent = lent (g.M.Memory.heap c.args.memory.now) (g.M.Memory.grants c.args.memory.now)
-    c.args.context.now c.args.shared.now in
+    let l : Lent = lent_of g.M.Memory.heap g.M.Memory.grants c.args.context.now c.args.runtime.now in
     let held = c.in-Some-lock_of.ensures.held l.heap
     (second_held (IsValue l.heap) _ c.requires.good.operands _ _ c.in-Some.ensures) in
     let count = c.monitored_count.ensures.count in
@@ -78,12 +77,12 @@ returns-in-Err-clause-acts g c =
     let few = c.monitored_count.ensures.few in
     let grants = g.M.Memory.grants c.permit_records.new.memory in
     rw (c.permit_records.ensures.heap, c.owner-owned_by.ensures.heap)
-    (wanting_acts (monitor_caller c.args.caller) c.args.trial (monitor_asked c.args.caller) l
+    (wanting_acts (monitor_caller c.args.caller) c.args.attempt (monitor_asked c.args.caller) l
     c.requires.good grants l.room l.scratch (omega arith) (at_least-same _) c.requires.good.empty
-    (rw c.owner-owned_by.ensures.grants at (logs_asked c.args.trial.slot _ _
+    (rw c.owner-owned_by.ensures.grants at (logs_asked c.args.attempt.slot _ _
     c.permit_records.ensures.kept c.permit_records.ensures.others c.permit_records.ensures.more))
     c.in-Err.reason
-    (enter_wants l c.requires.good c.args.trial c.args.caller c.in-Some-lock_of.lock held
+    (enter_wants l c.requires.good c.args.attempt c.args.caller c.in-Some-lock_of.lock held
     c.in-Some-procedure_of.body
     (monitor_enters l _ _ c.in-Some.ensures c.args.caller c.in-Some-procedure_of.body
     c.in-Some-procedure_of.ensures.part c.in-Some-lock_of.lock c.in-Some-lock_of.ensures.value
@@ -96,8 +95,7 @@ returns-in-Err-clause-acts g c =
 
 pub returns-clause-acts : goal.returns-clause-acts
 returns-clause-acts g c =
-    let l : Lent = lent (g.M.Memory.heap c.args.memory.now) (g.M.Memory.grants c.args.memory.now)
-    c.args.context.now c.args.shared.now in
+    let l : Lent = lent_of g.M.Memory.heap g.M.Memory.grants c.args.context.now c.args.runtime.now in
     let held = c.in-Some-lock_of.ensures.held l.heap
     (second_held (IsValue l.heap) _ c.requires.good.operands _ _ c.in-Some.ensures) in
     let count = c.monitored_count.ensures.count in
@@ -106,7 +104,7 @@ returns-clause-acts g c =
     let few = c.monitored_count.ensures.few in
     let left = g.M.Memory.grants c.set_owner.new.memory in
     rw (c.discard.ensures, c.push_monitored.ensures)
-    (enters_acts l c.requires.good c.args.trial c.args.caller c.in-Some-lock_of.lock held
+    (enters_acts l c.requires.good c.args.attempt c.args.caller c.in-Some-lock_of.lock held
     c.in-Some-procedure_of.body
     (monitor_enters l _ _ c.in-Some.ensures c.args.caller c.in-Some-procedure_of.body
     c.in-Some-procedure_of.ensures.part c.in-Some-lock_of.lock c.in-Some-lock_of.ensures.value
@@ -124,7 +122,7 @@ returns-clause-acts g c =
     c.requires.caller
     (rw (c.permit_records.ensures.heap, c.owner-owned_by.ensures.heap)
     at c.set_owner.ensures.shows)
-    (rw c.owner-owned_by.ensures.grants at (logs_changed c.args.trial.slot _ _
+    (rw c.owner-owned_by.ensures.grants at (logs_changed c.args.attempt.slot _ _
     c.permit_records.ensures.kept c.permit_records.ensures.others c.permit_records.ensures.more left
     1 (store-used _ _ _ c.set_owner.ensures.grants)))
     (c.in-Some-procedure_of.ensures.held l.heap

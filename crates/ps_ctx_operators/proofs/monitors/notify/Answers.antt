@@ -6,8 +6,8 @@ use Rattle.ps_ctx_operators.proofs.NotifyLemmas.{notify_leaves}
 use Rattle.ps_ctx_operators.proofs.monitors.notify.Goals as goal
 
 pub returns-clause-acts : goal.returns-clause-acts
-returns-clause-acts g c trial = rw (c.discard.ensures)
-    (words_acts _ trial _ _ _ c.requires.good
-    (rest_held (IsValue (g.M.Memory.heap c.args.memory.now)) _ c.requires.good.operands 1)
+returns-clause-acts g c attempt = rw (c.discard.ensures)
+    (words_acts _ attempt _ _ _ c.requires.good
+    (rest_held (IsValue (g.M.Memory.heap c.args.runtime.now.memory)) _ c.requires.good.operands 1)
     (notify_leaves _ _ c.in-Some.ensures c.in-Some-condition_of.condition
-    c.in-Some-condition_of.ensures.value trial _))
+    c.in-Some-condition_of.ensures.value attempt _))

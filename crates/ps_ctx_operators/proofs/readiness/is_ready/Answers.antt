@@ -3,7 +3,7 @@ use Rattle.std.proofs.Common.{None, refl, sym, subst}
 use Rattle.ps_ctx_table.specs.declared.members.Course.TheVariants.{Running, Unwinding, Waiting, Finished}
 use Rattle.ps_ctx_table.specs.Desks.{Desk, IsCourseHeld, IsGoodMember}
 use Rattle.ps_ctx_table.proofs.Turning.{member_at}
-use Rattle.ps_ctx.specs.Calls.{over, call_by}
+use Rattle.ps_ctx.specs.Calls.{call_by, over_of}
 use Rattle.ps_ctx_table.specs.Worlds.{context_of}
 use Rattle.ps_ctx_operators.proofs.Ready.{gone_unready, ready_by, again_ready, retaking_ready}
 use Rattle.ps_ctx_operators.proofs.readiness.is_ready.Goals as goal
@@ -14,14 +14,14 @@ returns-in_default-clause-ready g c = λ w at.
 
 pub waits_again-requires-clause-values : goal.waits_again-requires-clause-values
 waits_again-requires-clause-values g c =
-    let d : Desk = over (g.M.Memory.heap c.args.memory.now) (g.M.Memory.grants c.args.memory.now)
+    let d : Desk = over_of g.M.Memory.heap g.M.Memory.grants c.args.runtime.now
     c.args.contexts.now in
     (member_at (IsGoodMember d) d.members c.args.identifier c.in-Some.member.now
     c.requires.steady.members (sym c.in-Some.ensures)).good.operands
 
 pub owner-requires-clause-known : goal.owner-requires-clause-known
 owner-requires-clause-known g c =
-    let d : Desk = over (g.M.Memory.heap c.args.memory.now) (g.M.Memory.grants c.args.memory.now)
+    let d : Desk = over_of g.M.Memory.heap g.M.Memory.grants c.args.runtime.now
     c.args.contexts.now in
     subst (IsCourseHeld d.heap) c.in-Retaking.is
     (member_at (IsGoodMember d) d.members c.args.identifier c.in-Some.member.now
@@ -39,7 +39,7 @@ returns-in-Unwinding-clause-ready g c = λ w at.
 
 pub returns-in-Again-clause-ready : goal.returns-in-Again-clause-ready
 returns-in-Again-clause-ready g c = λ w at.
-    let d : Desk = over (g.M.Memory.heap c.args.memory.now) (g.M.Memory.grants c.args.memory.now)
+    let d : Desk = over_of g.M.Memory.heap g.M.Memory.grants c.args.runtime.now
     c.args.contexts.now in
     again_ready d w at c.args.identifier c.in-Some.member.now (sym c.in-Some.ensures) c.in-Again.is
     c.waits_again.result (c.waits_again.ensures.waits d.names
@@ -55,7 +55,7 @@ pub returns-in-Retaking-clause-ready : goal.returns-in-Retaking-clause-ready
 returns-in-Retaking-clause-ready g c = λ w at.
     retaking_ready _ w at c.args.identifier c.in-Some.member.now (sym c.in-Some.ensures)
     c.in-Retaking.lock c.in-Retaking.is c.owner.result
-    (c.owner.ensures.value c.args.contexts.now.shared.names w.store at.shows)
+    (c.owner.ensures.value c.args.runtime.now.shared.names w.store at.shows)
 
 pub returns-in-Finished-clause-ready : goal.returns-in-Finished-clause-ready
 returns-in-Finished-clause-ready g c = λ w at.

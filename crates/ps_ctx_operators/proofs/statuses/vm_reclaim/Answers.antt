@@ -11,17 +11,17 @@ use Rattle.ps_ctx_operators.proofs.Wishing.{wish_refused, wish_taken}
 use Rattle.ps_ctx_operators.proofs.statuses.vm_reclaim.Goals as goal
 
 pub returns-then-not-is_wish-clause-acts : goal.returns-then-not-is_wish-clause-acts
-returns-then-not-is_wish-clause-acts g c trial =
+returns-then-not-is_wish-clause-acts g c attempt =
     let fits : SFits w32 c.in-Some-integer_of.number = search rules in
-    raised_acts _ trial _ _ c.requires.good RangeCheck
+    raised_acts _ attempt _ _ c.requires.good RangeCheck
     (wish_refused _ _ c.in-Some.ensures _ c.in-Some-integer_of.ensures
     (sym (simp to_z-of_z at c.is_wish.ensures) ∙ c.if-not-is_wish.true))
 
 pub returns-clause-acts : goal.returns-clause-acts
-returns-clause-acts g c trial =
+returns-clause-acts g c attempt =
     let fits : SFits w32 c.in-Some-integer_of.number = search rules in
     rw (c.discard.ensures)
-    (words_acts _ trial _ _ _ c.requires.good
-    (rest_held (IsValue (g.M.Memory.heap c.args.memory.now)) _ c.requires.good.operands 1)
+    (words_acts _ attempt _ _ _ c.requires.good
+    (rest_held (IsValue (g.M.Memory.heap c.args.runtime.now.memory)) _ c.requires.good.operands 1)
     (wish_taken _ _ c.in-Some.ensures _ c.in-Some-integer_of.ensures
-    (sym (simp to_z-of_z at c.is_wish.ensures) ∙ c.if-not-is_wish.false) trial _))
+    (sym (simp to_z-of_z at c.is_wish.ensures) ∙ c.if-not-is_wish.false) attempt _))

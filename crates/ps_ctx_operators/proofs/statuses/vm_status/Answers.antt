@@ -19,6 +19,6 @@ returns-clause-error g c =
     rw (c.made.ensures) (made_raises c.push_status.result c.push_status.ensures.error)
 
 pub returns-clause-acts : goal.returns-clause-acts
-returns-clause-acts g c = λ trial.
+returns-clause-acts g c = λ attempt.
     rw (c.made.ensures)
-    (does_acts _ c.requires.good trial _ _ _ c.push_status.ensures.row c.push_status.ensures.kept)
+    (does_acts _ c.requires.good attempt _ _ _ c.push_status.ensures.row c.push_status.ensures.kept)

@@ -9,20 +9,20 @@ use Rattle.ps_ctx_table.proofs.Turning.{unmade_steady}
 use Rattle.ps_ctx_table.proofs.laws.desk_laws.Goals as goal
 
 pub returns-clause-turn : goal.returns-clause-turn
-returns-clause-turn c = λ d w identifier member asks turn trial new turned shown at steady found
+returns-clause-turn c = λ d w identifier member asks turn attempt new turned shown at steady found
     made may is. (
-      turned_machine d steady identifier member found asks turn trial new turned made w at,
-      turned_steps d w at identifier member found steady asks turn trial new turned made shown may
+      turned_machine d steady identifier member found asks turn attempt new turned made w at,
+      turned_steps d w at identifier member found steady asks turn attempt new turned made shown may
           is,
-      turned_world d steady identifier member found asks turn trial new turned made w at,
-      turned_steady d steady identifier member found asks turn trial new turned made,
+      turned_world d steady identifier member found asks turn attempt new turned made w at,
+      turned_steady d steady identifier member found asks turn attempt new turned made,
     )
 
 pub returns-clause-unmade : goal.returns-clause-unmade
-returns-clause-unmade c = λ d w identifier member asks turn trial new reason at steady found
+returns-clause-unmade c = λ d w identifier member asks turn attempt new reason at steady found
     unmade. (
-      unmade_world d steady identifier member found asks turn trial new reason unmade w at,
-      unmade_steady d steady identifier member found asks turn trial new reason unmade,
+      unmade_world d steady identifier member found asks turn attempt new reason unmade w at,
+      unmade_steady d steady identifier member found asks turn attempt new reason unmade,
     )
 
 pub returns-clause-moves : goal.returns-clause-moves

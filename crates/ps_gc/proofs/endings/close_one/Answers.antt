@@ -2,7 +2,7 @@ use Rattle.std.proofs.Common.{◌≡◌, ◌+◌, false, true, None, length, sym
 use Rattle.ps_core_machine.specs.declared.events.Gc.{Gc}
 use Rattle.ps_core_machine.specs.Objects.{log_of}
 use Rattle.ps_core_machine.specs.Steps.{is_open}
-use Rattle.ps_core_memory.specs.Memory.{heap_of, is_shut}
+use Rattle.ps_core_laws.specs.Memory.{heap_of, is_shut}
 use Rattle.ps_table.specs.declared.plays.View.{View}
 use Rattle.ps_table.proofs.Kept.{keeps_vm, sits_on}
 use Rattle.ps_gc.specs.Events.{is_drained}

@@ -1,6 +1,6 @@
 use Rattle.std.proofs.Common.{true≢false, ap, sym, subst, ◌∙◌}
 use Rattle.ps_core_machine.specs.declared.events.Vm.{Vm}
-use Rattle.ps_core_memory.specs.Memory.{is_shut}
+use Rattle.ps_core_laws.specs.Memory.{is_shut}
 use Rattle.ps_table.proofs.Kept.{keeps_vm}
 use Rattle.ps_gc.specs.declared.collector.Drained.{Drained}
 use Rattle.ps_gc.specs.Ending.{FindsNext}

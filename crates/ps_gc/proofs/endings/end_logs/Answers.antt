@@ -5,7 +5,7 @@ use Rattle.ps_core_machine.specs.declared.events.Vm.{Vm}
 use Rattle.ps_core_machine.specs.Objects.{closes, log_of}
 use Rattle.ps_core_machine.specs.Steps.{is_open}
 use Rattle.ps_core_laws.proofs.HeapTests.{and_parts}
-use Rattle.ps_core_memory.specs.Memory.{heap_of, is_shut}
+use Rattle.ps_core_laws.specs.Memory.{heap_of, is_shut}
 use Rattle.ps_table.proofs.Kept.{sits_on}
 use Rattle.ps_gc.specs.Ending.{IsEnded}
 use Rattle.ps_gc.proofs.Ending.{ended_on}

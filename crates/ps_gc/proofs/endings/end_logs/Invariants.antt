@@ -1,6 +1,6 @@
 use Rattle.std.proofs.Common.{◌≡◌, ◌<◌, ℕ, true}
 use Rattle.ps_core_machine.specs.Steps.{is_open, knows_open}
-use Rattle.ps_core_memory.specs.Memory.{heap_of}
+use Rattle.ps_core_laws.specs.Memory.{heap_of}
 use Rattle.ps_table.specs.Mirrored.{Sits}
 use Rattle.ps_gc.specs.Ending.{IsEnded, KeepsReplicas}
 use Rattle.ps_gc.proofs.endings.end_logs.Given as goal

@@ -1,8 +1,8 @@
 use Rattle.std.proofs.Common.{ap, ◌∙◌, ◌++◌, [], Bool}
 use Rattle.std.specs.Prelude.{if◌then◌else◌}
-use Rattle.ps_core_memory.specs.Stores.{numbers}
+use Rattle.ps_core_laws.specs.Stores.{numbers}
 use Rattle.ps_core_machine.specs.declared.events.Vm.{Vm}
-use Rattle.ps_core_memory.specs.Memory.{heap_of, grants_of}
+use Rattle.ps_core_laws.specs.Memory.{heap_of, grants_of}
 use Rattle.ps_table.specs.Shown.{SeatState}
 use Rattle.ps_table.proofs.Kept.{keeps_vm, sits_on}
 use Rattle.ps_gc.proofs.Spaces.{values_name}

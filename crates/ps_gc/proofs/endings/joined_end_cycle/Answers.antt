@@ -5,9 +5,9 @@ use Rattle.ps_core_machine.specs.declared.events.Gc.{Gc}
 use Rattle.ps_core_machine.specs.Steps.{is_open}
 use Rattle.ps_mem.specs.Heap.{Heap}
 use Rattle.ps_mem.specs.Shows.{AreValues}
-use Rattle.ps_core_memory.specs.Memory.{heap_of}
-use Rattle.ps_core_memory.specs.Stores.{numbers}
-use Rattle.ps_core_flips.specs.Collected.{IsCollected, IsExact}
+use Rattle.ps_core_laws.specs.Memory.{heap_of}
+use Rattle.ps_core_laws.specs.Stores.{numbers}
+use Rattle.ps_core_laws.specs.Collected.{IsCollected, IsExact}
 use Rattle.ps_table.proofs.Kept.{keeps_vm, sits_on}
 use Rattle.ps_gc.specs.declared.flips.Flip.TheVariants.{Done}
 use Rattle.ps_gc.specs.Flipping.{MayFlip}

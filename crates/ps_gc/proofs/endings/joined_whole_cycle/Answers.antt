@@ -1,4 +1,4 @@
-use Rattle.std.proofs.Common.{◌≡◌, ◌+◌, ◌&&◌, ℕ, [], true, false, not, refl, sym, ap, subst, ◌∙◌}
+use Rattle.std.proofs.Common.{◌≡◌, ◌+◌, ◌&&◌, ℕ, [], true, false, not, sym, ap, subst, ◌∙◌}
 use Rattle.std.specs.Prelude.{nat_lt}
 use Rattle.ps_mem.specs.Heap.{Heap}
 use Rattle.ps_mem.specs.Shows.{AreValues}
@@ -6,9 +6,9 @@ use Rattle.ps_word.specs.Headers.{cycle_limit}
 use Rattle.ps_core_machine.specs.declared.events.Vm.{Vm}
 use Rattle.ps_core_machine.specs.declared.events.Gc.{Gc}
 use Rattle.ps_core_machine.specs.Steps.{is_open}
-use Rattle.ps_core_memory.specs.Memory.{heap_of}
-use Rattle.ps_core_memory.specs.Stores.{numbers}
-use Rattle.ps_core_flips.specs.Collected.{IsExact}
+use Rattle.ps_core_laws.specs.Memory.{heap_of}
+use Rattle.ps_core_laws.specs.Stores.{numbers}
+use Rattle.ps_core_laws.specs.Collected.{IsExact}
 use Rattle.ps_table.specs.declared.plays.View.{View}
 use Rattle.ps_gc.proofs.Reaching.{names_alone, none_handed, shut_by}
 use Rattle.ps_gc.proofs.Spaces.{may_open_is}

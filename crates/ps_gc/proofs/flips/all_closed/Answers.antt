@@ -1,6 +1,6 @@
 use Rattle.std.proofs.Common.{◌≡◌, true, false, refl, sym, ◌∙◌, below_more, arith}
 use Rattle.ps_core_laws.proofs.HeapTests.{clash}
-use Rattle.ps_core_memory.specs.Memory.{is_shut}
+use Rattle.ps_core_laws.specs.Memory.{is_shut}
 use Rattle.ps_gc.proofs.Flipping.{shut_closes, closes_shut}
 use Rattle.ps_gc.proofs.flips.all_closed.Goals as goal
 

@@ -4,15 +4,15 @@ use Rattle.ps_gc_roots.proofs.collecting.hand_over.Goals as goal
 
 pub hand_over-requires : goal.hand_over-requires
 hand_over-requires g c = record {
-  values = over-values (g.M.Memory.heap c.args.memory.now) (g.M.Memory.heap c.is_open.new.self)
-      (g.M.Memory.grants c.args.memory.now) (g.M.Memory.grants c.args.memory.now)
-      c.args.contexts.now c.as_slice.result.now c.is_open.ensures.heap
+  values = over-values (g.M.Memory.heap c.args.runtime.now.memory) (g.M.Memory.heap c.is_open.new.self)
+      (g.M.Memory.grants c.args.runtime.now.memory) (g.M.Memory.grants c.args.runtime.now.memory)
+      c.args.runtime.now.shared c.args.contexts.now c.as_slice.result.now c.is_open.ensures.heap
       (c.as_slice.ensures.value ∙ c.read_roots.ensures.roots) c.requires.steady
       c.is_open.ensures.addressed;
 }
 
 pub returns-clause-kept : goal.returns-clause-kept
 returns-clause-kept g c =
-    over-granted (g.M.Memory.heap c.args.memory.now) (g.M.Memory.heap c.hand_over.new.memory)
-    (g.M.Memory.grants c.args.memory.now) (g.M.Memory.grants c.hand_over.new.memory)
-    c.args.contexts.now (c.hand_over.ensures.heap ∙ c.is_open.ensures.heap)
+    over-granted (g.M.Memory.heap c.args.runtime.now.memory) (g.M.Memory.heap c.hand_over.new.memory)
+    (g.M.Memory.grants c.args.runtime.now.memory) (g.M.Memory.grants c.hand_over.new.memory)
+    c.args.runtime.now.shared c.args.contexts.now (c.hand_over.ensures.heap ∙ c.is_open.ensures.heap)

@@ -1,24 +1,24 @@
 use Rattle.std.proofs.Common.{◌≡◌, length, drop, arith, sym, subst, ◌∙◌}
 use Rattle.std.proofs.lemmas.List.{take_at}
-use Rattle.ps_core_flips.specs.Collected.{IsCollected, IsExact}
+use Rattle.ps_core_laws.specs.Collected.{IsCollected, IsExact}
 use Rattle.ps_gc_roots.proofs.Whole.{over-lives}
 use Rattle.ps_gc_roots.proofs.Moving.{over-values, over-granted, over-moved}
 use Rattle.ps_gc_roots.proofs.collecting.whole_cycle.Goals as goal
 
 pub whole_cycle-requires : goal.whole_cycle-requires
 whole_cycle-requires g c = record {
-  values = over-values (g.M.Memory.heap c.args.memory.now) (g.M.Memory.heap c.is_open.new.self)
-      (g.M.Memory.grants c.args.memory.now) (g.M.Memory.grants c.args.memory.now)
-      c.args.contexts.now c.as_mut_slice.result.now c.is_open.ensures.heap
+  values = over-values (g.M.Memory.heap c.args.runtime.now.memory) (g.M.Memory.heap c.is_open.new.self)
+      (g.M.Memory.grants c.args.runtime.now.memory) (g.M.Memory.grants c.args.runtime.now.memory)
+      c.args.runtime.now.shared c.args.contexts.now c.as_mut_slice.result.now c.is_open.ensures.heap
       (c.as_mut_slice.ensures.value ∙ c.read_roots.ensures.roots) c.requires.steady
       c.is_open.ensures.addressed;
 }
 
 pub returns-then-not-whole_cycle-clause-kept : goal.returns-then-not-whole_cycle-clause-kept
 returns-then-not-whole_cycle-clause-kept g c =
-    over-granted (g.M.Memory.heap c.args.memory.now) (g.M.Memory.heap c.whole_cycle.new.memory)
-    (g.M.Memory.grants c.args.memory.now) (g.M.Memory.grants c.whole_cycle.new.memory)
-    c.args.contexts.now
+    over-granted (g.M.Memory.heap c.args.runtime.now.memory) (g.M.Memory.heap c.whole_cycle.new.memory)
+    (g.M.Memory.grants c.args.runtime.now.memory) (g.M.Memory.grants c.whole_cycle.new.memory)
+    c.args.runtime.now.shared c.args.contexts.now
     (c.whole_cycle.ensures.heap c.if-not-whole_cycle.true ∙ c.is_open.ensures.heap)
 
 pub returns-clause-kept : goal.returns-clause-kept
@@ -28,22 +28,22 @@ returns-clause-kept g c =
     let written : c.as_slice.result.now ≡ moved =
     c.as_slice.ensures.value ∙ take_at moved
     (drop (length moved) c.read_roots.new.roots.items) c.read_roots.new.roots.len count in
-    over-moved (g.M.Memory.heap c.args.memory.now) (g.M.Memory.heap c.whole_cycle.new.memory)
-    (g.M.Memory.grants c.args.memory.now) (g.M.Memory.grants c.whole_cycle.new.memory)
-    c.args.contexts.now c.as_mut_slice.result.now c.as_slice.result.now c.write_roots.new.contexts
+    over-moved (g.M.Memory.heap c.args.runtime.now.memory) (g.M.Memory.heap c.whole_cycle.new.memory)
+    (g.M.Memory.grants c.args.runtime.now.memory) (g.M.Memory.grants c.whole_cycle.new.memory)
+    c.args.runtime.now.shared c.args.contexts.now c.as_mut_slice.result.now c.as_slice.result.now c.write_roots.new.contexts
     c.requires.steady c.is_open.ensures.addressed
     (c.as_mut_slice.ensures.value ∙ c.read_roots.ensures.roots)
-    (subst (λ words. IsCollected (g.M.Memory.heap c.args.memory.now)
+    (subst (λ words. IsCollected (g.M.Memory.heap c.args.runtime.now.memory)
     (g.M.Memory.heap c.whole_cycle.new.memory) c.as_mut_slice.result.now words) (sym written)
     (subst (λ heap. IsCollected heap (g.M.Memory.heap c.whole_cycle.new.memory)
     c.as_mut_slice.result.now moved) c.is_open.ensures.heap
     (c.whole_cycle.ensures.exact c.if-not-whole_cycle.false).collected))
-    c.write_roots.ensures.table c.write_roots.ensures.shared c.write_roots.ensures.faulted
+    c.write_roots.ensures.table c.write_roots.ensures.faulted
 
 pub returns-clause-lives : goal.returns-clause-lives
 returns-clause-lives g c = λ yes w at.
-    over-lives (g.M.Memory.heap c.args.memory.now) (g.M.Memory.heap c.whole_cycle.new.memory)
-    (g.M.Memory.grants c.args.memory.now) c.args.contexts.now c.as_mut_slice.result.now
+    over-lives (g.M.Memory.heap c.args.runtime.now.memory) (g.M.Memory.heap c.whole_cycle.new.memory)
+    (g.M.Memory.grants c.args.runtime.now.memory) c.args.runtime.now.shared c.args.contexts.now c.as_mut_slice.result.now
     c.whole_cycle.new.roots c.requires.steady c.is_open.ensures.addressed
     (c.as_mut_slice.ensures.value ∙ c.read_roots.ensures.roots)
     (subst (λ heap. IsExact heap (g.M.Memory.heap c.whole_cycle.new.memory)

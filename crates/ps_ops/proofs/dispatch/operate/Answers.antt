@@ -216,7 +216,7 @@ returns-in-Put g c = named c.in-Put.is refl c.put.ensures.acts
 
 pub returns-in-Exit : goal.returns-in-Exit
 returns-in-Exit g c = named c.in-Exit.is refl
-    (exit_acts _ c.requires.good _ _ (c.exit.ensures (g.M.Memory.heap c.args.memory.now) _))
+    (exit_acts _ c.requires.good _ _ (c.exit.ensures (g.M.Memory.heap c.args.runtime.now.memory) _))
 
 pub returns-in-Equals : goal.returns-in-Equals
 returns-in-Equals g c = named c.in-Equals.is refl (c.equals.ensures.acts _)
@@ -328,4 +328,4 @@ returns-in-EndDict g c = named c.in-EndDict.is refl c.end_dict.ensures.acts
 
 pub returns-in-ErrorDict : goal.returns-in-ErrorDict
 returns-in-ErrorDict g c =
-    named c.in-ErrorDict.is refl (c.error_dictionary.ensures.acts c.args.trial)
+    named c.in-ErrorDict.is refl (c.error_dictionary.ensures.acts c.args.attempt)

@@ -28,5 +28,5 @@ returns-in-Err g c =
     not_raised _ _ _ _ _ c.requires.good c.in-Err-Raises.error _ raises
     (rw c.in-Err.is at c.raise_by.ensures) _
     (c.truncate.ensures
-    ∙ names_back c.args.operator c.args.trial _ _ _ c.operate.ensures.stays
+    ∙ names_back c.args.operator c.args.attempt _ _ _ c.operate.ensures.stays
     c.raise_by.ensures.stays _ c.len-count.ensures.count)

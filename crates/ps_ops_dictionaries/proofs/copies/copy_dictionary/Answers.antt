@@ -103,7 +103,7 @@ returns-in-Err g c =
         | inr refused ↦ rw refused.0
             (copy_refused _ c.requires.good _ _ c.requires.operands _ _ c.requires.target
             c.requires.source _ _ c.access-readable.ensures.value target_access
-            (sym c.may_copy.ensures ∙ c.if-not-may_copy.false) refused.1 c.args.trial refused.2
+            (sym c.may_copy.ensures ∙ c.if-not-may_copy.false) refused.1 c.args.attempt refused.2
             refused.3)
       ];
     })
@@ -133,7 +133,7 @@ returns-in_default-plan_merge g c =
     (record {
       acts = copy_roomless _ c.requires.good _ _ c.requires.operands _ _ c.requires.target
           c.requires.source _ _ c.access-readable.ensures.value target_access
-          (sym c.may_copy.ensures ∙ c.if-not-may_copy.false) possible c.args.trial room _
+          (sym c.may_copy.ensures ∙ c.if-not-may_copy.false) possible c.args.attempt room _
           (record {
             text = omega arith;
             sought = omega arith;
@@ -166,7 +166,7 @@ returns-in-Ok-asked g c =
     ) at c.asked.ensures.logs in
     let grown = c.plan_merge.ensures.room in
     let same = c.clear.ensures.capacity in
-    let kept : vec_capacity c.args.shared.now.scratch.words ≤ vec_capacity c.clear.new.self =
+    let kept : vec_capacity c.args.runtime.now.shared.scratch.words ≤ vec_capacity c.clear.new.self =
     omega (arith, grown, same) in
     let change = rw plan at c.put_merged.ensures.grants in
     let keeps = rw (
@@ -187,8 +187,8 @@ returns-in-Ok-asked g c =
     (record {
       acts = copy_acts _ c.requires.good _ _ c.requires.operands _ _ c.requires.target
           c.requires.source _ _ c.access-readable.ensures.value target_access
-          (sym c.may_copy.ensures ∙ c.if-not-may_copy.false) possible c.args.trial room
-          (record c.args.shared.now.scratch { words = c.clear.new.self })
+          (sym c.may_copy.ensures ∙ c.if-not-may_copy.false) possible c.args.attempt room
+          (record c.args.runtime.now.shared.scratch { words = c.clear.new.self })
           (record { text = omega arith; sought = omega arith; words = kept })
           (record {
             text = c.requires.good.empty.text;
@@ -218,7 +218,7 @@ returns-in-Err-asked g c =
     ) at c.asked.ensures.logs in
     let grown = c.plan_merge.ensures.room in
     let same = c.clear-in-Err-asked.ensures.capacity in
-    let kept : vec_capacity c.args.shared.now.scratch.words
+    let kept : vec_capacity c.args.runtime.now.shared.scratch.words
     ≤ vec_capacity c.clear-in-Err-asked.new.self = omega (arith, grown, same) in
     let lack = rw (
       c.records.ensures,
@@ -243,8 +243,8 @@ returns-in-Err-asked g c =
     (record {
       acts = copy_lacking _ c.requires.good _ _ c.requires.operands _ _ c.requires.target
           c.requires.source _ _ c.access-readable.ensures.value target_access
-          (sym c.may_copy.ensures ∙ c.if-not-may_copy.false) possible c.args.trial room
-          (record c.args.shared.now.scratch { words = c.clear-in-Err-asked.new.self })
+          (sym c.may_copy.ensures ∙ c.if-not-may_copy.false) possible c.args.attempt room
+          (record c.args.runtime.now.shared.scratch { words = c.clear-in-Err-asked.new.self })
           (record { text = omega arith; sought = omega arith; words = kept })
           (record {
             text = c.requires.good.empty.text;

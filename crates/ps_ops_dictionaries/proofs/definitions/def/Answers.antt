@@ -11,7 +11,7 @@ use Rattle.ps_ops_dictionaries.proofs.definitions.def.Goals as goal
 
 pub returns-in_default-as_dictionary-clause-acts : goal.returns-in_default-as_dictionary-clause-acts
 returns-in_default-as_dictionary-clause-acts g c =
-    let held = second_held (IsValue (g.M.Memory.heap c.args.memory.now)) _
+    let held = second_held (IsValue (g.M.Memory.heap c.args.runtime.now.memory)) _
     c.requires.good.operands _ _ c.in-Some.ensures in
     raised_acts _ _ _ _ c.requires.good TypeCheck
     (def_wrong _ _ _ c.in-Some.ensures (c.is_null.ensures _ _ held ∙ c.if-is_null.false)
@@ -19,7 +19,7 @@ returns-in_default-as_dictionary-clause-acts g c =
 
 pub returns-then-not-is_readable_key-clause-acts : goal.returns-then-not-is_readable_key-clause-acts
 returns-then-not-is_readable_key-clause-acts g c =
-    let held = second_held (IsValue (g.M.Memory.heap c.args.memory.now)) _
+    let held = second_held (IsValue (g.M.Memory.heap c.args.runtime.now.memory)) _
     c.requires.good.operands _ _ c.in-Some.ensures in
     raised_acts _ _ _ _ c.requires.good InvalidAccess
     (def_unreadable _ _ _ c.in-Some.ensures
@@ -29,13 +29,13 @@ returns-then-not-is_readable_key-clause-acts g c =
 
 pub put_entry-requires-clause-known : goal.put_entry-requires-clause-known
 put_entry-requires-clause-known g c =
-    (dictionary_stands (g.M.Memory.heap c.args.memory.now) _
-    (first_held (IsValue (g.M.Memory.heap c.args.memory.now)) _ c.requires.good.dictionaries _
+    (dictionary_stands (g.M.Memory.heap c.args.runtime.now.memory) _
+    (first_held (IsValue (g.M.Memory.heap c.args.runtime.now.memory)) _ c.requires.good.dictionaries _
     c.in-Some-top.ensures) _ c.in-Some-as_dictionary.ensures)
 
 pub returns-clause-acts : goal.returns-clause-acts
 returns-clause-acts g c =
-    let held = second_held (IsValue (g.M.Memory.heap c.args.memory.now)) _
+    let held = second_held (IsValue (g.M.Memory.heap c.args.runtime.now.memory)) _
     c.requires.good.operands _ _ c.in-Some.ensures in
     let some = c.is_null.ensures _ _ held ∙ c.if-is_null.false in
     effect_acts _ _ _ _ _ _ _

@@ -12,7 +12,7 @@ use Rattle.ps_ops_dictionaries.proofs.definitions.put_into_dictionary.Goals as g
 
 pub returns-then-is_null-clause-acts : goal.returns-then-is_null-clause-acts
 returns-then-is_null-clause-acts g c =
-    let held = second_of_three_held (IsValue (g.M.Memory.heap c.args.memory.now)) _
+    let held = second_of_three_held (IsValue (g.M.Memory.heap c.args.runtime.now.memory)) _
     c.requires.good.operands _ _ _ c.requires.operands in
     raised_acts _ _ _ _ c.requires.good TypeCheck
     (put_null _ _ _ _ _ c.requires.operands c.requires.address
@@ -20,7 +20,7 @@ returns-then-is_null-clause-acts g c =
 
 pub returns-then-not-is_readable_key-clause-acts : goal.returns-then-not-is_readable_key-clause-acts
 returns-then-not-is_readable_key-clause-acts g c =
-    let held = second_of_three_held (IsValue (g.M.Memory.heap c.args.memory.now)) _
+    let held = second_of_three_held (IsValue (g.M.Memory.heap c.args.runtime.now.memory)) _
     c.requires.good.operands _ _ _ c.requires.operands in
     raised_acts _ _ _ _ c.requires.good InvalidAccess
     (put_unreadable _ _ _ _ _ c.requires.operands c.requires.address
@@ -29,13 +29,13 @@ returns-then-not-is_readable_key-clause-acts g c =
 
 pub put_entry-requires-clause-known : goal.put_entry-requires-clause-known
 put_entry-requires-clause-known g c =
-    (dictionary_stands (g.M.Memory.heap c.args.memory.now) _
-    (third_held (IsValue (g.M.Memory.heap c.args.memory.now)) _ c.requires.good.operands _ _ _
+    (dictionary_stands (g.M.Memory.heap c.args.runtime.now.memory) _
+    (third_held (IsValue (g.M.Memory.heap c.args.runtime.now.memory)) _ c.requires.good.operands _ _ _
     c.requires.operands) _ c.requires.address)
 
 pub returns-clause-acts : goal.returns-clause-acts
 returns-clause-acts g c =
-    let held = second_of_three_held (IsValue (g.M.Memory.heap c.args.memory.now)) _
+    let held = second_of_three_held (IsValue (g.M.Memory.heap c.args.runtime.now.memory)) _
     c.requires.good.operands _ _ _ c.requires.operands in
     effect_acts _ _ _ _ _ _ _
     (put_puts _ _ _ _ _ c.requires.operands c.requires.address

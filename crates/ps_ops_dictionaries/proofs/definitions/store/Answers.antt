@@ -11,7 +11,7 @@ use Rattle.ps_ops_dictionaries.proofs.definitions.store.Goals as goal
 
 pub returns-in_default-as_dictionary : goal.returns-in_default-as_dictionary
 returns-in_default-as_dictionary g c =
-    let held = second_held (IsValue (g.M.Memory.heap c.args.memory.now)) _
+    let held = second_held (IsValue (g.M.Memory.heap c.args.runtime.now.memory)) _
     c.requires.good.operands _ _ c.in-Some.ensures in
     let place = rw c.in-Ok-Some.field-0-is at c.in-Ok-Some.ensures.value in
     let place_there = rw c.read_key-read.ensures.heap at place in
@@ -38,7 +38,7 @@ put_key-requires-clause-known g c =
 
 pub returns-in-Some-as_dictionary : goal.returns-in-Some-as_dictionary
 returns-in-Some-as_dictionary g c =
-    let held = second_held (IsValue (g.M.Memory.heap c.args.memory.now)) _
+    let held = second_held (IsValue (g.M.Memory.heap c.args.runtime.now.memory)) _
     c.requires.good.operands _ _ c.in-Some.ensures in
     let some = c.is_null.ensures _ _ held ∙ c.if-is_null.false in
     let place = rw c.in-Ok-Some.field-0-is at c.in-Ok-Some.ensures.value in
@@ -64,7 +64,7 @@ returns-in-Some-as_dictionary g c =
 
 pub returns-in-Ok-None : goal.returns-in-Ok-None
 returns-in-Ok-None g c =
-    let held = second_held (IsValue (g.M.Memory.heap c.args.memory.now)) _
+    let held = second_held (IsValue (g.M.Memory.heap c.args.runtime.now.memory)) _
     c.requires.good.operands _ _ c.in-Some.ensures in
     let place = rw c.in-Ok-None.field-0-is at c.in-Ok-None.ensures.value in
     let place_there = rw c.read_key-read.ensures.heap at place in
@@ -83,7 +83,7 @@ returns-in-Ok-None g c =
 
 pub returns-in-Err : goal.returns-in-Err
 returns-in-Err g c =
-    let held = second_held (IsValue (g.M.Memory.heap c.args.memory.now)) _
+    let held = second_held (IsValue (g.M.Memory.heap c.args.runtime.now.memory)) _
     c.requires.good.operands _ _ c.in-Some.ensures in
     let place = c.in-Err.ensures.value in
     let place_there = rw c.read_key-read.ensures.heap at place in

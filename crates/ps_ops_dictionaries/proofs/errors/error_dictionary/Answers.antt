@@ -6,7 +6,7 @@ use Rattle.ps_ops_dictionaries.proofs.errors.error_dictionary.Goals as goal
 pub returns : goal.returns
 returns g c = rw (c.made.ensures)
     (record {
-      acts = λ trial. pushed_acts _ _ _ _ trial c.requires.good
+      acts = λ attempt. pushed_acts _ _ _ _ attempt c.requires.good
           (c.dictionary_word-word.ensures.held _ c.requires.good.error_stands.stands) _ _
           c.push.ensures.row
           (error_pushes _ _ c.dictionary_word-word.ensures.value

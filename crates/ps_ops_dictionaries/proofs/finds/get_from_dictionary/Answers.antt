@@ -12,33 +12,33 @@ use Rattle.ps_ops_dictionaries.proofs.finds.get_from_dictionary.Goals as goal
 
 pub returns-then-is_null-clause-acts : goal.returns-then-is_null-clause-acts
 returns-then-is_null-clause-acts g c =
-    let held = first_of_two_held (IsValue (g.M.Memory.heap c.args.memory.now)) _
+    let held = first_of_two_held (IsValue (g.M.Memory.heap c.args.runtime.now.memory)) _
     c.requires.good.operands _ _ c.requires.operands in
-    λ trial. raised_acts _ trial _ _ c.requires.good TypeCheck
+    λ attempt. raised_acts _ attempt _ _ c.requires.good TypeCheck
     (get_null _ _ _ _ c.requires.operands c.requires.address
     (c.is_null.ensures _ _ held ∙ c.if-is_null.true))
 
 pub returns-then-not-is_readable_key-clause-acts : goal.returns-then-not-is_readable_key-clause-acts
 returns-then-not-is_readable_key-clause-acts g c =
-    let held = first_of_two_held (IsValue (g.M.Memory.heap c.args.memory.now)) _
+    let held = first_of_two_held (IsValue (g.M.Memory.heap c.args.runtime.now.memory)) _
     c.requires.good.operands _ _ c.requires.operands in
-    λ trial. raised_acts _ trial _ _ c.requires.good InvalidAccess
+    λ attempt. raised_acts _ attempt _ _ c.requires.good InvalidAccess
     (get_unreadable _ _ _ _ c.requires.operands c.requires.address
     (c.is_null.ensures _ _ held ∙ c.if-is_null.false)
     (c.is_readable_key.ensures _ _ ∙ c.if-not-is_readable_key.true))
 
 pub access-requires-clause-known : goal.access-requires-clause-known
 access-requires-clause-known g c =
-    dictionary_stands (g.M.Memory.heap c.args.memory.now) _
-    (second_held (IsValue (g.M.Memory.heap c.args.memory.now)) _ c.requires.good.operands _ _
+    dictionary_stands (g.M.Memory.heap c.args.runtime.now.memory) _
+    (second_held (IsValue (g.M.Memory.heap c.args.runtime.now.memory)) _ c.requires.good.operands _ _
     c.requires.operands) _ c.requires.address
 
 pub returns-then-not-is_readable-clause-acts : goal.returns-then-not-is_readable-clause-acts
 returns-then-not-is_readable-clause-acts g c =
-    let held = first_of_two_held (IsValue (g.M.Memory.heap c.args.memory.now)) _
+    let held = first_of_two_held (IsValue (g.M.Memory.heap c.args.runtime.now.memory)) _
     c.requires.good.operands _ _ c.requires.operands in
     rw (c.access.ensures.heap, c.access.ensures.grants)
-    (λ trial. raised_acts _ trial _ _ c.requires.good InvalidAccess
+    (λ attempt. raised_acts _ attempt _ _ c.requires.good InvalidAccess
     (get_hidden _ _ _ _ c.requires.operands c.requires.address
     (c.is_null.ensures _ _ held ∙ c.if-is_null.false)
     (c.is_readable_key.ensures _ _ ∙ c.if-not-is_readable_key.false) _
@@ -46,13 +46,13 @@ returns-then-not-is_readable-clause-acts g c =
 
 pub find_in-requires-clause-known : goal.find_in-requires-clause-known
 find_in-requires-clause-known g c = rw (c.read_key-sought.ensures.heap, c.access.ensures.heap)
-    (dictionary_stands (g.M.Memory.heap c.args.memory.now) _
-    (second_held (IsValue (g.M.Memory.heap c.args.memory.now)) _ c.requires.good.operands _ _
+    (dictionary_stands (g.M.Memory.heap c.args.runtime.now.memory) _
+    (second_held (IsValue (g.M.Memory.heap c.args.runtime.now.memory)) _ c.requires.good.operands _ _
     c.requires.operands) _ c.requires.address)
 
 pub returns-in-Some-clause-acts : goal.returns-in-Some-clause-acts
 returns-in-Some-clause-acts g c =
-    let heap = g.M.Memory.heap c.args.memory.now in
+    let heap = g.M.Memory.heap c.args.runtime.now.memory in
     let ops = c.args.context.now.operands in
     let held = first_of_two_held (IsValue heap) _ c.requires.good.operands _ _
     c.requires.operands in
@@ -74,7 +74,7 @@ returns-in-Some-clause-acts g c =
       c.access.ensures.heap,
       c.access.ensures.grants,
     )
-    (λ trial. stacked_acts _ _ (c.in-Some.value ∷ drop 2 ops) _ _ trial c.requires.good
+    (λ attempt. stacked_acts _ _ (c.in-Some.value ∷ drop 2 ops) _ _ attempt c.requires.good
     (value_held, rest_held (IsValue heap) _ c.requires.good.operands 2)
     c.requires.good.dictionaries
     (get_stacks _ _ _ _ c.requires.operands c.requires.address
@@ -86,7 +86,7 @@ returns-in-Some-clause-acts g c =
 
 pub returns-in-None-clause-acts : goal.returns-in-None-clause-acts
 returns-in-None-clause-acts g c =
-    let heap = g.M.Memory.heap c.args.memory.now in
+    let heap = g.M.Memory.heap c.args.runtime.now.memory in
     let held = first_of_two_held (IsValue heap) _ c.requires.good.operands _ _
     c.requires.operands in
     let read = c.read_key-sought.ensures.key in
@@ -101,7 +101,7 @@ returns-in-None-clause-acts g c =
       c.access.ensures.heap,
       c.access.ensures.grants,
     )
-    (λ trial. raised_acts _ trial _ _ c.requires.good Undefined
+    (λ attempt. raised_acts _ attempt _ _ c.requires.good Undefined
     (get_undefined _ _ _ _ c.requires.operands c.requires.address
     (c.is_null.ensures _ _ held ∙ c.if-is_null.false)
     (c.is_readable_key.ensures _ _ ∙ c.if-not-is_readable_key.false) _

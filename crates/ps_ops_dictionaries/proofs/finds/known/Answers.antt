@@ -14,33 +14,33 @@ use Rattle.ps_ops_dictionaries.proofs.finds.known.Goals as goal
 
 pub returns-in_default-as_dictionary-clause-acts : goal.returns-in_default-as_dictionary-clause-acts
 returns-in_default-as_dictionary-clause-acts g c =
-    let held = first_of_two_held (IsValue (g.M.Memory.heap c.args.memory.now)) _
+    let held = first_of_two_held (IsValue (g.M.Memory.heap c.args.runtime.now.memory)) _
     c.requires.good.operands _ _ c.in-Some.ensures in
-    λ trial. raised_acts _ trial _ _ c.requires.good TypeCheck
+    λ attempt. raised_acts _ attempt _ _ c.requires.good TypeCheck
     (known_wrong _ _ _ c.in-Some.ensures (c.is_null.ensures _ _ held ∙ c.if-is_null.false)
     c.in_default-as_dictionary.ensures)
 
 pub returns-then-not-is_readable_key-clause-acts : goal.returns-then-not-is_readable_key-clause-acts
 returns-then-not-is_readable_key-clause-acts g c =
-    let held = first_of_two_held (IsValue (g.M.Memory.heap c.args.memory.now)) _
+    let held = first_of_two_held (IsValue (g.M.Memory.heap c.args.runtime.now.memory)) _
     c.requires.good.operands _ _ c.in-Some.ensures in
-    λ trial. raised_acts _ trial _ _ c.requires.good InvalidAccess
+    λ attempt. raised_acts _ attempt _ _ c.requires.good InvalidAccess
     (known_unreadable _ _ _ c.in-Some.ensures
     (c.is_null.ensures _ _ held ∙ c.if-is_null.false) _ c.in-Some-as_dictionary.ensures
     (c.is_readable_key.ensures _ _ ∙ c.if-not-is_readable_key.true))
 
 pub access-requires-clause-known : goal.access-requires-clause-known
 access-requires-clause-known g c =
-    dictionary_stands (g.M.Memory.heap c.args.memory.now) _
-    (second_held (IsValue (g.M.Memory.heap c.args.memory.now)) _ c.requires.good.operands _ _
+    dictionary_stands (g.M.Memory.heap c.args.runtime.now.memory) _
+    (second_held (IsValue (g.M.Memory.heap c.args.runtime.now.memory)) _ c.requires.good.operands _ _
     c.in-Some.ensures) _ c.in-Some-as_dictionary.ensures
 
 pub returns-then-not-is_readable-clause-acts : goal.returns-then-not-is_readable-clause-acts
 returns-then-not-is_readable-clause-acts g c =
-    let held = first_of_two_held (IsValue (g.M.Memory.heap c.args.memory.now)) _
+    let held = first_of_two_held (IsValue (g.M.Memory.heap c.args.runtime.now.memory)) _
     c.requires.good.operands _ _ c.in-Some.ensures in
     rw (c.access.ensures.heap, c.access.ensures.grants)
-    (λ trial. raised_acts _ trial _ _ c.requires.good InvalidAccess
+    (λ attempt. raised_acts _ attempt _ _ c.requires.good InvalidAccess
     (known_hidden _ _ _ c.in-Some.ensures (c.is_null.ensures _ _ held ∙ c.if-is_null.false) _
     c.in-Some-as_dictionary.ensures
     (c.is_readable_key.ensures _ _ ∙ c.if-not-is_readable_key.false) _
@@ -48,13 +48,13 @@ returns-then-not-is_readable-clause-acts g c =
 
 pub find_in-requires-clause-known : goal.find_in-requires-clause-known
 find_in-requires-clause-known g c = rw (c.read_key-sought.ensures.heap, c.access.ensures.heap)
-    (dictionary_stands (g.M.Memory.heap c.args.memory.now) _
-    (second_held (IsValue (g.M.Memory.heap c.args.memory.now)) _ c.requires.good.operands _ _
+    (dictionary_stands (g.M.Memory.heap c.args.runtime.now.memory) _
+    (second_held (IsValue (g.M.Memory.heap c.args.runtime.now.memory)) _ c.requires.good.operands _ _
     c.in-Some.ensures) _ c.in-Some-as_dictionary.ensures)
 
 pub returns-in-Ok-clause-acts : goal.returns-in-Ok-clause-acts
 returns-in-Ok-clause-acts g c =
-    let heap = g.M.Memory.heap c.args.memory.now in
+    let heap = g.M.Memory.heap c.args.runtime.now.memory in
     let births = birth_at heap in
     let ops = c.args.context.now.operands in
     let held = first_of_two_held (IsValue heap) _ c.requires.good.operands _ _ c.in-Some.ensures in
@@ -72,7 +72,7 @@ returns-in-Ok-clause-acts g c =
       c.access.ensures.heap,
       c.access.ensures.grants,
     )
-    (λ trial. formed_name_acts _ _ c.requires.good trial c.in-Some.key _ key
+    (λ attempt. formed_name_acts _ _ c.requires.good attempt c.in-Some.key _ key
     (λ store shown. first_of_two_held (IsWithin births _ store) _ shown.operands _ _
     c.in-Some.ensures) (c.boolean.result ∷ drop 2 ops) _
     (known_tail _ _ _ c.in-Some.ensures (c.is_null.ensures _ _ held ∙ c.if-is_null.false) _
@@ -88,12 +88,12 @@ returns-in-Ok-clause-acts g c =
       plain_within births names store _ c.boolean.ensures.plain,
       rest_held (IsWithin births names store) _ within 2,
     ))
-    (λ store shown. ap (λ v. v ∷ values_in heap c.args.shared.now.names (drop 2 ops))
-    (c.boolean.ensures.value births c.args.shared.now.names)))
+    (λ store shown. ap (λ v. v ∷ values_in heap c.args.runtime.now.shared.names (drop 2 ops))
+    (c.boolean.ensures.value births c.args.runtime.now.shared.names)))
 
 pub returns-in-Err-clause-acts : goal.returns-in-Err-clause-acts
 returns-in-Err-clause-acts g c =
-    let heap = g.M.Memory.heap c.args.memory.now in
+    let heap = g.M.Memory.heap c.args.runtime.now.memory in
     let births = birth_at heap in
     let held = first_of_two_held (IsValue heap) _ c.requires.good.operands _ _ c.in-Some.ensures in
     let read = c.read_key-sought.ensures.key in
@@ -108,7 +108,7 @@ returns-in-Err-clause-acts g c =
       c.access.ensures.heap,
       c.access.ensures.grants,
     )
-    (λ trial. fault_acts _ _ c.requires.good trial c.in-Some.key _ key
+    (λ attempt. fault_acts _ _ c.requires.good attempt c.in-Some.key _ key
     (λ store shown. first_of_two_held (IsWithin births _ store) _ shown.operands _ _
     c.in-Some.ensures) [] _
     (known_tail _ _ _ c.in-Some.ensures (c.is_null.ensures _ _ held ∙ c.if-is_null.false) _

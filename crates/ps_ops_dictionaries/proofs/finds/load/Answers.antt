@@ -10,7 +10,7 @@ use Rattle.ps_ops_dictionaries.proofs.finds.load.Goals as goal
 
 pub returns-in-Ok-Some-clause-acts : goal.returns-in-Ok-Some-clause-acts
 returns-in-Ok-Some-clause-acts g c =
-    let heap = g.M.Memory.heap c.args.memory.now in
+    let heap = g.M.Memory.heap c.args.runtime.now.memory in
     let held = first_held (IsValue heap) _ c.requires.good.operands _ c.in-Some.ensures in
     let looked = rw c.in-Ok-Some.field-0-is at c.in-Ok-Some.ensures.value in
     let looked_there = rw c.read_key-sought.ensures.heap at looked in
@@ -27,7 +27,7 @@ returns-in-Ok-Some-clause-acts g c =
       c.read_key-sought.ensures.heap,
       c.read_key-sought.ensures.grants,
     )
-    (λ trial. stacked_acts _ _ _ _ _ trial c.requires.good
+    (λ attempt. stacked_acts _ _ _ _ _ attempt c.requires.good
     (value_held.1, rest_held (IsValue heap) _ c.requires.good.operands 1)
     c.requires.good.dictionaries
     (load_stacks _ _ c.in-Some.ensures (c.is_null.ensures _ _ held ∙ c.if-is_null.false)
@@ -37,7 +37,7 @@ returns-in-Ok-Some-clause-acts g c =
 
 pub returns-in-Ok-None-clause-acts : goal.returns-in-Ok-None-clause-acts
 returns-in-Ok-None-clause-acts g c =
-    let heap = g.M.Memory.heap c.args.memory.now in
+    let heap = g.M.Memory.heap c.args.runtime.now.memory in
     let held = first_held (IsValue heap) _ c.requires.good.operands _ c.in-Some.ensures in
     let looked = rw c.in-Ok-None.field-0-is at c.in-Ok-None.ensures.value in
     let looked_there = rw c.read_key-sought.ensures.heap at looked in
@@ -47,14 +47,14 @@ returns-in-Ok-None-clause-acts g c =
       c.read_key-sought.ensures.heap,
       c.read_key-sought.ensures.grants,
     )
-    (λ trial. raised_acts _ trial _ _ c.requires.good Undefined
+    (λ attempt. raised_acts _ attempt _ _ c.requires.good Undefined
     (load_undefined _ _ c.in-Some.ensures (c.is_null.ensures _ _ held ∙ c.if-is_null.false)
     (c.is_readable_key.ensures _ _ ∙ c.if-not-is_readable_key.false) c.requires.good _
     c.read_key-sought.ensures.key _ c.word.ensures _ looked_there refl))
 
 pub returns-in-Err-clause-acts : goal.returns-in-Err-clause-acts
 returns-in-Err-clause-acts g c =
-    let heap = g.M.Memory.heap c.args.memory.now in
+    let heap = g.M.Memory.heap c.args.runtime.now.memory in
     let held = first_held (IsValue heap) _ c.requires.good.operands _ c.in-Some.ensures in
     let looked = c.in-Err.ensures.value in
     let looked_there = rw c.read_key-sought.ensures.heap at looked in
@@ -64,7 +64,7 @@ returns-in-Err-clause-acts g c =
       c.read_key-sought.ensures.heap,
       c.read_key-sought.ensures.grants,
     )
-    (λ trial. raised_acts _ trial _ _ c.requires.good _
+    (λ attempt. raised_acts _ attempt _ _ c.requires.good _
     (load_hidden _ _ c.in-Some.ensures (c.is_null.ensures _ _ held ∙ c.if-is_null.false)
     (c.is_readable_key.ensures _ _ ∙ c.if-not-is_readable_key.false) c.requires.good _
     c.read_key-sought.ensures.key _ c.word.ensures _ looked_there _ refl))

@@ -15,7 +15,7 @@ use Rattle.ps_ops_dictionaries.proofs.finds.where_key.Goals as goal
 
 pub returns-in-Err : goal.returns-in-Err
 returns-in-Err g c =
-    let heap = g.M.Memory.heap c.args.memory.now in
+    let heap = g.M.Memory.heap c.args.runtime.now.memory in
     let held = first_held (IsValue heap) _ c.requires.good.operands _ c.in-Some.ensures in
     let looked = c.in-Err.ensures.value in
     let looked_there = rw c.read_key-sought.ensures.heap at looked in
@@ -26,7 +26,7 @@ returns-in-Err g c =
       c.read_key-sought.ensures.grants,
     )
     (record {
-      acts = λ trial. raised_acts _ trial _ _ c.requires.good _
+      acts = λ attempt. raised_acts _ attempt _ _ c.requires.good _
           (where_hidden _ _ c.in-Some.ensures (c.is_null.ensures _ _ held ∙ c.if-is_null.false)
           (c.is_readable_key.ensures _ _ ∙ c.if-not-is_readable_key.false) c.requires.good _
           c.read_key-sought.ensures.key _ c.word.ensures _ looked_there _ refl);
@@ -34,7 +34,7 @@ returns-in-Err g c =
 
 pub returns-then-is_full : goal.returns-then-is_full
 returns-then-is_full g c =
-    let heap = g.M.Memory.heap c.args.memory.now in
+    let heap = g.M.Memory.heap c.args.runtime.now.memory in
     let held = first_held (IsValue heap) _ c.requires.good.operands _ c.in-Some.ensures in
     let looked = rw c.in-Ok-Some.field-0-is at c.in-Ok-Some.ensures.value in
     let looked_there = rw c.read_key-sought.ensures.heap at looked in
@@ -47,7 +47,7 @@ returns-then-is_full g c =
       c.read_key-sought.ensures.grants,
     )
     (record {
-      acts = λ trial. raised_acts _ trial _ _ c.requires.good StackOverflow
+      acts = λ attempt. raised_acts _ attempt _ _ c.requires.good StackOverflow
           (where_full _ _ c.in-Some.ensures (c.is_null.ensures _ _ held ∙ c.if-is_null.false)
           (c.is_readable_key.ensures _ _ ∙ c.if-not-is_readable_key.false) c.requires.good _
           c.read_key-sought.ensures.key _ c.word.ensures _ looked_there _ refl there.0 there.1
@@ -56,7 +56,7 @@ returns-then-is_full g c =
 
 pub returns-else-is_full : goal.returns-else-is_full
 returns-else-is_full g c =
-    let heap = g.M.Memory.heap c.args.memory.now in
+    let heap = g.M.Memory.heap c.args.runtime.now.memory in
     let ops = c.args.context.now.operands in
     let held = first_held (IsValue heap) _ c.requires.good.operands _ c.in-Some.ensures in
     let looked = rw c.in-Ok-Some.field-0-is at c.in-Ok-Some.ensures.value in
@@ -76,7 +76,7 @@ returns-else-is_full g c =
       c.read_key-sought.ensures.grants,
     )
     (record {
-      acts = λ trial. stacked_acts _ _ _ _ _ trial c.requires.good (
+      acts = λ attempt. stacked_acts _ _ _ _ _ attempt c.requires.good (
         plain_value heap _ c.boolean.ensures.plain,
         (value_held.0, rest_held (IsValue heap) _ c.requires.good.operands 1),
       ) c.requires.good.dictionaries
@@ -90,7 +90,7 @@ returns-else-is_full g c =
 
 pub returns-in-Ok : goal.returns-in-Ok
 returns-in-Ok g c =
-    let heap = g.M.Memory.heap c.args.memory.now in
+    let heap = g.M.Memory.heap c.args.runtime.now.memory in
     let births = birth_at heap in
     let ops = c.args.context.now.operands in
     let held = first_held (IsValue heap) _ c.requires.good.operands _ c.in-Some.ensures in
@@ -105,7 +105,7 @@ returns-in-Ok g c =
       c.read_key-sought.ensures.grants,
     )
     (record {
-      acts = λ trial. formed_name_acts _ _ c.requires.good trial c.in-Some.key _
+      acts = λ attempt. formed_name_acts _ _ c.requires.good attempt c.in-Some.key _
           c.read_key-sought.ensures.key
           (λ store shown. first_held (IsWithin births _ store) _ shown.operands _
           c.in-Some.ensures) (c.boolean-in-Ok.result ∷ drop 1 ops) _
@@ -120,13 +120,13 @@ returns-in-Ok g c =
             plain_within births names store _ c.boolean-in-Ok.ensures.plain,
             rest_held (IsWithin births names store) _ within 1,
           ))
-          (λ store shown. ap (λ v. v ∷ values_in heap c.args.shared.now.names (drop 1 ops))
-          (c.boolean-in-Ok.ensures.value births c.args.shared.now.names));
+          (λ store shown. ap (λ v. v ∷ values_in heap c.args.runtime.now.shared.names (drop 1 ops))
+          (c.boolean-in-Ok.ensures.value births c.args.runtime.now.shared.names));
     })
 
 pub returns-in-Err-form_key : goal.returns-in-Err-form_key
 returns-in-Err-form_key g c =
-    let heap = g.M.Memory.heap c.args.memory.now in
+    let heap = g.M.Memory.heap c.args.runtime.now.memory in
     let births = birth_at heap in
     let held = first_held (IsValue heap) _ c.requires.good.operands _ c.in-Some.ensures in
     let looked = rw c.in-Ok-None.field-0-is at c.in-Ok-None.ensures.value in
@@ -138,7 +138,7 @@ returns-in-Err-form_key g c =
       c.read_key-sought.ensures.grants,
     )
     (record {
-      acts = λ trial. fault_acts _ _ c.requires.good trial c.in-Some.key _
+      acts = λ attempt. fault_acts _ _ c.requires.good attempt c.in-Some.key _
           c.read_key-sought.ensures.key
           (λ store shown. first_held (IsWithin births _ store) _ shown.operands _
           c.in-Some.ensures) [] _

@@ -17,7 +17,7 @@ returns-in-Err g c =
 
 pub form_names-requires-clause-held : goal.form_names-requires-clause-held
 form_names-requires-clause-held g c = rw c.test_elements.ensures.heap
-    (top_values (g.M.Memory.heap c.args.memory.now) c.args.context.now.operands c.in-Some.depth _
+    (top_values (g.M.Memory.heap c.args.runtime.now.memory) c.args.context.now.operands c.in-Some.depth _
     c.requires.good.operands c.topmost-elements.ensures)
 
 pub returns-in-Err-form_names : goal.returns-in-Err-form_names
@@ -31,7 +31,7 @@ returns-in-Err-form_names g c =
     )
     (record {
       acts = end_unmet _ c.in-Some.depth c.in-Some.ensures.found _ c.topmost-elements.ensures
-          c.in_default-test_elements.ensures.tested c.requires.good c.args.trial
+          c.in_default-test_elements.ensures.tested c.requires.good c.args.attempt
           c.in_default-test_elements.ensures.fits _ fault c.form_names.ensures.more.0 _ _
           c.form_names.ensures.more.1 c.len-count.result c.len-count.ensures.count
           c.truncate.ensures;
@@ -51,19 +51,19 @@ returns-then-len-count g c =
     )
     (record {
       acts = end_refused _ c.in-Some.depth c.in-Some.ensures.found _ c.topmost-elements.ensures
-          c.in_default-test_elements.ensures.tested c.requires.good c.args.trial c.if-trial.true
+          c.in_default-test_elements.ensures.tested c.requires.good c.args.attempt c.if-attempt.true
           c.form_names.ensures.more.0 _ c.form_names.ensures.more.1 met
           c.form_names.ensures.distinct (omega (arith, now, then, same));
     })
 
-pub returns-then-trial : goal.returns-then-trial
-returns-then-trial g c =
+pub returns-then-attempt : goal.returns-then-attempt
+returns-then-attempt g c =
     let met = rw c.test_elements.ensures.heap at c.in_default-form_names.ensures.met in
     let now = c.len.ensures.count in
     let then = c.len-count.ensures.count in
     let other = c.if-len-count.false in
     let size = ap length c.form_names.ensures.more.1
-    ∙ length-append c.args.shared.now.names c.form_names.ensures.more.0 in
+    ∙ length-append c.args.runtime.now.shared.names c.form_names.ensures.more.0 in
     let logs = rw (c.form_names.ensures.grants, c.test_elements.ensures.grants)
     at c.refuse.ensures.logs in
     let refused = rw (
@@ -75,7 +75,7 @@ returns-then-trial g c =
     rw (c.refuse.ensures.heap, c.form_names.ensures.heap, c.test_elements.ensures.heap)
     (record {
       acts = end_noted _ c.in-Some.depth c.in-Some.ensures.found _ c.topmost-elements.ensures
-          c.in_default-test_elements.ensures.tested c.requires.good c.args.trial c.if-trial.true
+          c.in_default-test_elements.ensures.tested c.requires.good c.args.attempt c.if-attempt.true
           c.form_names.ensures.more.0 _ c.form_names.ensures.more.1 met
           c.form_names.ensures.distinct (omega (arith, now, then, other, size)) _ logs _
           c.len-count.result c.len-count.ensures.count _ refused;
@@ -95,8 +95,8 @@ returns-in-Err-make_pairs g c =
     (record {
       acts = end_roomless _ c.in-Some.depth c.in-Some.ensures.found _ c.topmost-elements.ensures
           (omega (arith, c.in-Some.ensures.bound)) c.in_default-test_elements.ensures.even
-          c.in_default-test_elements.ensures.tested c.requires.good c.args.trial c.if-trial.false
-          _ (record c.args.shared.now.scratch { words = c.make_pairs.new.words })
+          c.in_default-test_elements.ensures.tested c.requires.good c.args.attempt c.if-attempt.false
+          _ (record c.args.runtime.now.shared.scratch { words = c.make_pairs.new.words })
           (record {
             text = omega arith;
             sought = omega arith;
@@ -106,7 +106,7 @@ returns-in-Err-make_pairs g c =
             text = c.requires.good.empty.text;
             sought = c.requires.good.empty.sought;
             words = c.make_pairs.ensures.empty;
-          }) (logs c.args.trial.slot) _ unmade.2 c.form_names.ensures.more.0 _ _
+          }) (logs c.args.attempt.slot) _ unmade.2 c.form_names.ensures.more.0 _ _
           c.form_names.ensures.more.1 c.len-count.result c.len-count.ensures.count
           c.truncate-in-Err-make_pairs.ensures;
     })
@@ -124,8 +124,8 @@ returns g c =
     record {
       acts = end_made _ c.in-Some.depth c.in-Some.ensures.found _ c.topmost-elements.ensures
           (omega (arith, c.in-Some.ensures.bound)) c.in_default-test_elements.ensures.even
-          c.in_default-test_elements.ensures.tested c.requires.good c.args.trial c.if-trial.false
-          _ (record c.args.shared.now.scratch { words = c.make_pairs.new.words })
+          c.in_default-test_elements.ensures.tested c.requires.good c.args.attempt c.if-attempt.false
+          _ (record c.args.runtime.now.shared.scratch { words = c.make_pairs.new.words })
           (record {
             text = omega arith;
             sought = omega arith;
@@ -135,7 +135,7 @@ returns g c =
             text = c.requires.good.empty.text;
             sought = c.requires.good.empty.sought;
             words = c.make_pairs.ensures.empty;
-          }) (logs c.args.trial.slot) c.form_names.ensures.more.0 _
+          }) (logs c.args.attempt.slot) c.form_names.ensures.more.0 _
           c.form_names.ensures.more.1 met c.form_names.ensures.distinct _ _ keeps ready
           (λ s pairs shows within met_again are. left s pairs shows within met_again are);
     }

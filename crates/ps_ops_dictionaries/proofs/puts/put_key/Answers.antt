@@ -17,15 +17,15 @@ returns-then-not-is_writable-clause-acts g c =
 
 pub returns-in-Some-clause-acts : goal.returns-in-Some-clause-acts
 returns-in-Some-clause-acts g c =
-    let key = subst (IsKeyOf (g.M.Memory.heap c.args.memory.now) c.args.shared.now.names
+    let key = subst (IsKeyOf (g.M.Memory.heap c.args.runtime.now.memory) c.args.runtime.now.shared.names
     c.args.entry.key) (met_where c.args.read.now _ c.in-Some.ensures) c.requires.key in
     let acts = rw (c.access.ensures.heap, c.access.ensures.grants) at c.put_met.ensures.acts in
     writable_acts _ c.args.entry.address c.args.entry.key c.args.entry.value
     c.args.entry.operands _ c.access.ensures.value
-    (sym c.is_writable.ensures ∙ c.if-not-is_writable.false) _ c.args.trial _ _
+    (sym c.is_writable.ensures ∙ c.if-not-is_writable.false) _ c.args.attempt _ _
     (met_acts _ c.args.entry.key c.in-Some.key key c.args.entry.address c.args.entry.value
     c.args.entry.operands (λ store shown. c.requires.inside _ store shown.operands)
-    c.args.trial _ _
+    c.args.attempt _ _
     (acts λ store shown. (
       (key.shown store shown.shows (c.requires.inside _ store shown.operands).0).within,
       (c.requires.inside _ store shown.operands).1,
@@ -36,4 +36,4 @@ returns-in-None-clause-acts g c =
     let acts = rw (c.access.ensures.heap, c.access.ensures.grants) at c.put_unmet.ensures in
     writable_acts _ c.args.entry.address c.args.entry.key c.args.entry.value
     c.args.entry.operands _ c.access.ensures.value
-    (sym c.is_writable.ensures ∙ c.if-not-is_writable.false) _ c.args.trial _ _ acts.acts
+    (sym c.is_writable.ensures ∙ c.if-not-is_writable.false) _ c.args.attempt _ _ acts.acts

@@ -14,19 +14,19 @@ use Rattle.ps_ops_dictionaries.proofs.puts.put_met.Goals.{in-Full, in_default}
 
 pub returns-then-matches-clause-acts : goal.returns-then-matches-clause-acts
 returns-then-matches-clause-acts g c =
-    let heap = g.M.Memory.heap c.args.memory.now in
+    let heap = g.M.Memory.heap c.args.runtime.now.memory in
     let full : c.plan_put-plan.result ≡ Full = elim c.match-matches.branch [
       | in-Full w ↦ w.in-Full.is
       | in_default w ↦ absurd (true≢false (sym c.if-matches.true ∙ w.matches-is))
     ] in
     rw (c.plan_put-plan.ensures.heap, c.plan_put-plan.ensures.grants)
     (λ inside. raised_acts _ _ _ _ c.requires.good LimitCheck λ store shown.
-    full_raises (lent heap (g.M.Memory.grants c.args.memory.now) c.args.context.now
-    c.args.shared.now) c.args.entry.address c.args.entry.key c.args.entry.value
+    full_raises (lent heap (g.M.Memory.grants c.args.runtime.now.memory) c.args.context.now
+    c.args.runtime.now.shared) c.args.entry.address c.args.entry.key c.args.entry.value
     c.args.entry.operands store
-    ((c.plan_put-plan.ensures.full c.args.shared.now.names store shown.shows c.requires.good.names
+    ((c.plan_put-plan.ensures.full c.args.runtime.now.shared.names store shown.shows c.requires.good.names
     (inside store shown).0
-    (value_of (birth_at heap) c.args.shared.now.names c.args.entry.value)).0 full))
+    (value_of (birth_at heap) c.args.runtime.now.shared.names c.args.entry.value)).0 full))
 
 pub returns-then-is_refused-clause-acts : goal.returns-then-is_refused-clause-acts
 returns-then-is_refused-clause-acts g c =
@@ -37,19 +37,19 @@ returns-then-is_refused-clause-acts g c =
     (logs-same 0 _ _) (inl refl) λ store shown. record {
       scene = left_scene _ c.requires.good _ c.args.entry.key c.args.entry.value
           c.args.entry.operands _ c.requires.known c.requires.key
-          c.plan_put-plan.ensures.words possible c.args.trial inside store shown;
+          c.plan_put-plan.ensures.words possible c.args.attempt inside store shown;
       output = _;
       is = effect_is _ c.requires.good _ c.args.entry.key c.args.entry.value
           c.args.entry.operands _ c.requires.known c.requires.key
-          c.plan_put-plan.ensures.words possible c.args.trial inside store shown;
+          c.plan_put-plan.ensures.words possible c.args.attempt inside store shown;
       names_are = refl;
       lacking = lacking _ c.requires.good _ c.args.entry.key c.args.entry.value
           c.args.entry.operands _ c.requires.known c.requires.key
-          c.plan_put-plan.ensures.words possible c.args.trial inside store shown yes.0 yes.1;
+          c.plan_put-plan.ensures.words possible c.args.attempt inside store shown yes.0 yes.1;
     })
 
 pub returns-clause-acts : goal.returns-clause-acts
 returns-clause-acts g c =
     let acts = rw (c.plan_put-plan.ensures.heap, c.plan_put-plan.ensures.grants)
     at c.put_planned.ensures.acts in
-    λ inside. acts c.args.trial refl (c.is_refused.ensures.no c.if-is_refused.false) inside
+    λ inside. acts c.args.attempt refl (c.is_refused.ensures.no c.if-is_refused.false) inside

@@ -4,7 +4,7 @@ use Rattle.std.proofs.lemmas.Result.{err_from_is_err_and}
 use Rattle.ps_language.specs.declared.errors.ErrorName.TheVariants.{LimitCheck}
 use Rattle.ps_dict.specs.declared.plans.PutPlan.TheVariants.{Full}
 use Rattle.ps_ops_types.proofs.First.{name_held}
-use Rattle.ps_ops_state.specs.Lent.{lent}
+use Rattle.ps_ops_state.specs.Lent.{lent, lent_of}
 use Rattle.ps_ops_state.proofs.Acting.{raised_acts}
 use Rattle.ps_ops_dictionaries.proofs.Unmet.{unmet_full, unmet_fault, unmet_good, unmet_put, unmet_unmade}
 use Rattle.ps_ops_dictionaries.proofs.Unmet.{unmet_refused, formed_as, plan_possible, inside_formed}
@@ -28,7 +28,7 @@ returns-in_err-form_key-clause-acts g c =
     rw (p.1, p.2, c.length.ensures.heap, c.length.ensures.grants)
     (unmet_fault _ c.requires.good c.args.entry.address c.args.entry.key
     c.args.entry.value c.args.entry.operands c.requires.known _ c.requires.key
-    c.requires.unmet (λ s there. c.requires.inside _ s there.operands) c.args.trial
+    c.requires.unmet (λ s there. c.requires.inside _ s there.operands) c.args.attempt
     (omega (arith, few, words)) _ c.in_err-form_key.ensures.did _
     (c.in_err-form_key.ensures.unmade _ refl))
 
@@ -44,9 +44,9 @@ put_planned-requires-clause-key g c =
 
 pub put_planned-requires-clause-good : goal.put_planned-requires-clause-good
 put_planned-requires-clause-good g c =
-    let old = c.args.shared.now.names in
+    let old = c.args.runtime.now.shared.names in
     let made = c.in_ok-form_key.ensures.made refl in
-    let named = formed_as (g.M.Memory.heap c.args.memory.now) old c.form_key.new.names
+    let named = formed_as (g.M.Memory.heap c.args.runtime.now.memory) old c.form_key.new.names
     c.args.read.now c.requires.key.held c.len-count.ensures.names c.requires.unmet
     c.in_ok-form_key.ensures.did made.0 c.name_word-key.result c.len-count.result
     c.len-count.ensures.count c.name_word-key.ensures.value c.name_word-key.ensures.word in
@@ -56,8 +56,7 @@ put_planned-requires-clause-good g c =
       c.length.ensures.heap,
       c.length.ensures.grants,
     )
-    (unmet_good (lent (g.M.Memory.heap c.args.memory.now) (g.M.Memory.grants c.args.memory.now)
-    c.args.context.now c.args.shared.now) c.requires.good c.args.entry.address c.args.entry.key
+    (unmet_good (lent_of g.M.Memory.heap g.M.Memory.grants c.args.context.now c.args.runtime.now) c.requires.good c.args.entry.address c.args.entry.key
     c.args.entry.value c.args.entry.operands c.requires.known _ c.requires.key c.requires.unmet
     (λ s there. c.requires.inside _ s there.operands) c.name_word-key.result _ named
     (λ s there. (c.requires.inside _ s there.operands).1) made.1)
@@ -67,19 +66,18 @@ put_planned-requires-clause-possible g c = λ full.
     let few = c.if-length-ge-CAPACITY_LIMIT.false in
     let words = c.length.ensures.words in
     let plan = rw c.length.ensures.heap at c.plan_put-plan.ensures.words in
-    plan_possible (lent (g.M.Memory.heap c.args.memory.now)
-    (g.M.Memory.grants c.args.memory.now) c.args.context.now c.args.shared.now)
+    plan_possible (lent_of g.M.Memory.heap g.M.Memory.grants c.args.context.now c.args.runtime.now)
     c.args.entry.address c.name_word-key.result (omega (arith, few, words)) (sym plan ∙ full)
 
 pub returns-then-is_refused-clause-acts : goal.returns-then-is_refused-clause-acts
 returns-then-is_refused-clause-acts g c =
     let few = c.if-length-ge-CAPACITY_LIMIT.false in
     let words = c.length.ensures.words in
-    let heap = g.M.Memory.heap c.args.memory.now in
+    let heap = g.M.Memory.heap c.args.runtime.now.memory in
     let made = c.in_ok-form_key.ensures.made refl in
-    let l = lent heap (g.M.Memory.grants c.args.memory.now) c.args.context.now
-    c.args.shared.now in
-    let named = formed_as heap c.args.shared.now.names c.form_key.new.names
+    let l = lent heap (g.M.Memory.grants c.args.runtime.now.memory) c.args.context.now
+    c.args.runtime.now.shared in
+    let named = formed_as heap c.args.runtime.now.shared.names c.form_key.new.names
     c.args.read.now c.requires.key.held c.len-count.ensures.names c.requires.unmet
     c.in_ok-form_key.ensures.did made.0 c.name_word-key.result c.len-count.result
     c.len-count.ensures.count c.name_word-key.ensures.value c.name_word-key.ensures.word in
@@ -100,18 +98,18 @@ returns-then-is_refused-clause-acts g c =
     c.args.entry.value c.args.entry.operands c.requires.known _ c.requires.key
     c.requires.unmet (λ s there. c.requires.inside _ s there.operands)
     c.name_word-key.result _ named (λ s there. (c.requires.inside _ s there.operands).1)
-    c.args.trial made.1
+    c.args.attempt made.1
     (name_held _ _ _ c.name_word-key.ensures.value heap c.name_word-key.ensures.word)
     c.plan_put-plan.result plan possible yes.0 yes.1 _ logs _ c.len-count.result
     c.len-count.ensures.count c.refuse.result refused)
 
 pub returns-in-Ok-clause-acts : goal.returns-in-Ok-clause-acts
 returns-in-Ok-clause-acts g c =
-    let heap = g.M.Memory.heap c.args.memory.now in
+    let heap = g.M.Memory.heap c.args.runtime.now.memory in
     let made = c.in_ok-form_key.ensures.made refl in
-    let l = lent heap (g.M.Memory.grants c.args.memory.now) c.args.context.now
-    c.args.shared.now in
-    let named = formed_as heap c.args.shared.now.names c.form_key.new.names
+    let l = lent heap (g.M.Memory.grants c.args.runtime.now.memory) c.args.context.now
+    c.args.runtime.now.shared in
+    let named = formed_as heap c.args.runtime.now.shared.names c.form_key.new.names
     c.args.read.now c.requires.key.held c.len-count.ensures.names c.requires.unmet
     c.in_ok-form_key.ensures.did made.0 c.name_word-key.result c.len-count.result
     c.len-count.ensures.count c.name_word-key.ensures.value c.name_word-key.ensures.word in
@@ -125,8 +123,8 @@ returns-in-Ok-clause-acts g c =
     c.args.entry.value c.args.entry.operands c.requires.known _ c.requires.key
     c.requires.unmet (λ s there. c.requires.inside _ s there.operands)
     c.name_word-key.result _ named (λ s there. (c.requires.inside _ s there.operands).1)
-    c.args.trial _
-    (acts c.args.trial refl (c.is_refused.ensures.no c.if-is_refused.false)
+    c.args.attempt _
+    (acts c.args.attempt refl (c.is_refused.ensures.no c.if-is_refused.false)
     (inside_formed l c.requires.good c.args.entry.address c.args.entry.key
     c.args.entry.value c.args.entry.operands c.requires.known _ c.requires.key
     c.requires.unmet (λ s there. c.requires.inside _ s there.operands)
@@ -134,11 +132,11 @@ returns-in-Ok-clause-acts g c =
 
 pub returns-in-Err-clause-acts : goal.returns-in-Err-clause-acts
 returns-in-Err-clause-acts g c =
-    let heap = g.M.Memory.heap c.args.memory.now in
+    let heap = g.M.Memory.heap c.args.runtime.now.memory in
     let made = c.in_ok-form_key.ensures.made refl in
-    let l = lent heap (g.M.Memory.grants c.args.memory.now) c.args.context.now
-    c.args.shared.now in
-    let named = formed_as heap c.args.shared.now.names c.form_key.new.names
+    let l = lent heap (g.M.Memory.grants c.args.runtime.now.memory) c.args.context.now
+    c.args.runtime.now.shared in
+    let named = formed_as heap c.args.runtime.now.shared.names c.form_key.new.names
     c.args.read.now c.requires.key.held c.len-count.ensures.names c.requires.unmet
     c.in_ok-form_key.ensures.did made.0 c.name_word-key.result c.len-count.result
     c.len-count.ensures.count c.name_word-key.ensures.value c.name_word-key.ensures.word in
@@ -152,8 +150,8 @@ returns-in-Err-clause-acts g c =
     c.args.entry.value c.args.entry.operands c.requires.known _ c.requires.key
     c.requires.unmet (λ s there. c.requires.inside _ s there.operands)
     c.name_word-key.result _ named (λ s there. (c.requires.inside _ s there.operands).1)
-    c.args.trial _ c.in-Err.fault c.in-Err.ensures.unmade
-    (acts c.args.trial refl (c.is_refused.ensures.no c.if-is_refused.false)
+    c.args.attempt _ c.in-Err.fault c.in-Err.ensures.unmade
+    (acts c.args.attempt refl (c.is_refused.ensures.no c.if-is_refused.false)
     (inside_formed l c.requires.good c.args.entry.address c.args.entry.key
     c.args.entry.value c.args.entry.operands c.requires.known _ c.requires.key
     c.requires.unmet (λ s there. c.requires.inside _ s there.operands)

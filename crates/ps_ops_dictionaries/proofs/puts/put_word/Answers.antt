@@ -19,10 +19,10 @@ returns-then-is_writable-clause-acts g c =
     let acts = rw (c.access.ensures.heap, c.access.ensures.grants) at c.put_met.ensures.acts in
     writable_acts _ c.args.entry.address c.args.entry.key c.args.entry.value
     c.args.entry.operands _ c.access.ensures.value
-    (sym c.is_writable.ensures ∙ c.if-is_writable.true) _ c.args.trial _ _
+    (sym c.is_writable.ensures ∙ c.if-is_writable.true) _ c.args.attempt _ _
     (met_acts _ c.args.entry.key c.args.entry.key key c.args.entry.address c.args.entry.value
     c.args.entry.operands (λ store shown. c.requires.inside _ store shown.operands)
-    c.args.trial _ _
+    c.args.attempt _ _
     (acts λ store shown. (
       (key.shown store shown.shows (c.requires.inside _ store shown.operands).0).within,
       (c.requires.inside _ store shown.operands).1,

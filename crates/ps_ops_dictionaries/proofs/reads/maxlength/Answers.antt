@@ -14,34 +14,34 @@ use Rattle.ps_ops_dictionaries.proofs.reads.maxlength.Goals as goal
 
 pub returns-in_default : goal.returns-in_default
 returns-in_default g c = record {
-  acts = λ trial. raised_acts _ trial _ _ c.requires.good StackUnderflow
+  acts = λ attempt. raised_acts _ attempt _ _ c.requires.good StackUnderflow
       (maxlength_empty _ (sym c.in_default.is ∙ c.top.ensures));
 }
 
 pub returns-in_default-as_dictionary : goal.returns-in_default-as_dictionary
 returns-in_default-as_dictionary g c = record {
-  acts = λ trial. raised_acts _ trial _ _ c.requires.good TypeCheck
+  acts = λ attempt. raised_acts _ attempt _ _ c.requires.good TypeCheck
       (maxlength_wrong _ _ c.in-Some.ensures c.in_default-as_dictionary.ensures);
 }
 
 pub access-requires-clause-known : goal.access-requires-clause-known
 access-requires-clause-known g c =
-    dictionary_stands (g.M.Memory.heap c.args.memory.now) _
-    (first_held (IsValue (g.M.Memory.heap c.args.memory.now)) _ c.requires.good.operands _
+    dictionary_stands (g.M.Memory.heap c.args.runtime.now.memory) _
+    (first_held (IsValue (g.M.Memory.heap c.args.runtime.now.memory)) _ c.requires.good.operands _
     c.in-Some.ensures) _ c.in-Some-as_dictionary.ensures
 
 pub returns-then-not-is_readable : goal.returns-then-not-is_readable
 returns-then-not-is_readable g c = rw (c.access.ensures.heap, c.access.ensures.grants)
     (record {
-      acts = λ trial. raised_acts _ trial _ _ c.requires.good InvalidAccess
+      acts = λ attempt. raised_acts _ attempt _ _ c.requires.good InvalidAccess
           (maxlength_hidden _ _ c.in-Some.ensures _ c.in-Some-as_dictionary.ensures _
           c.access.ensures.value (sym c.is_readable.ensures ∙ c.if-not-is_readable.true));
     })
 
 pub capacity-number-requires-clause-known : goal.capacity-number-requires-clause-known
 capacity-number-requires-clause-known g c = rw c.access.ensures.heap
-    (dictionary_stands (g.M.Memory.heap c.args.memory.now) _
-    (first_held (IsValue (g.M.Memory.heap c.args.memory.now)) _ c.requires.good.operands _
+    (dictionary_stands (g.M.Memory.heap c.args.runtime.now.memory) _
+    (first_held (IsValue (g.M.Memory.heap c.args.runtime.now.memory)) _ c.requires.good.operands _
     c.in-Some.ensures) _ c.in-Some-as_dictionary.ensures)
 
 pub returns : goal.returns
@@ -55,9 +55,9 @@ returns g c =
       c.access.ensures.grants,
     )
     (record {
-      acts = λ trial. stacked_acts _ _ _ _ _ trial c.requires.good (
+      acts = λ attempt. stacked_acts _ _ _ _ _ attempt c.requires.good (
         plain_value _ _ c.integer.ensures.plain,
-        rest_held (IsValue (g.M.Memory.heap c.args.memory.now)) _ c.requires.good.operands 1,
+        rest_held (IsValue (g.M.Memory.heap c.args.runtime.now.memory)) _ c.requires.good.operands 1,
       ) c.requires.good.dictionaries
           (maxlength_stacks _ _ c.in-Some.ensures _ c.in-Some-as_dictionary.ensures _
           c.access.ensures.value (sym c.is_readable.ensures ∙ c.if-not-is_readable.false)

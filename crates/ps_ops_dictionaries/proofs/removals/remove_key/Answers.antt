@@ -7,15 +7,15 @@ pub returns-in_default : goal.returns-in_default
 returns-in_default g c =
     rw (c.discard.ensures, c.position.ensures.heap, c.position.ensures.grants)
     (record {
-      acts = λ trial slot inside. absent_acts _ c.requires.good c.args.address c.args.key
+      acts = λ attempt slot inside. absent_acts _ c.requires.good c.args.address c.args.key
           c.requires.known c.position.result
           (λ store shown. c.position.ensures.value _ store shown.shows c.requires.good.names
-          (inside store shown)) trial c.in_default.is;
+          (inside store shown)) attempt c.in_default.is;
     })
 
 pub returns-in-Err : goal.returns-in-Err
 returns-in-Err g c = record {
-  acts = λ trial slot inside.
+  acts = λ attempt slot inside.
       let logs = rw (
         sym slot,
         c.removal_records-records.ensures.grants,
@@ -33,12 +33,12 @@ returns-in-Err g c = record {
       (recordless_acts _ c.requires.good c.args.address c.args.key c.requires.known
       c.position.result
       (λ store shown. c.position.ensures.value _ store shown.shows c.requires.good.names
-      (inside store shown)) trial c.in-Some.place c.in-Some.is _ logs c.in-Err.reason lack);
+      (inside store shown)) attempt c.in-Some.place c.in-Some.is _ logs c.in-Err.reason lack);
 }
 
 pub returns-in-Err-remove : goal.returns-in-Err-remove
 returns-in-Err-remove g c = record {
-  acts = λ trial slot inside.
+  acts = λ attempt slot inside.
       let logs = rw (
         sym slot,
         c.removal_records-records.ensures.grants,
@@ -59,7 +59,7 @@ returns-in-Err-remove g c = record {
       (roomless_acts _ c.requires.good c.args.address c.args.key c.requires.known
       c.position.result
       (λ store shown. c.position.ensures.value _ store shown.shows c.requires.good.names
-      (inside store shown)) trial c.in-Some.place c.in-Some.is _ _ logs
+      (inside store shown)) attempt c.in-Some.place c.in-Some.is _ _ logs
       (record {
         text = omega arith;
         sought = omega arith;
@@ -74,7 +74,7 @@ returns-in-Err-remove g c = record {
 
 pub returns-in-Ok : goal.returns-in-Ok
 returns-in-Ok g c = record {
-  acts = λ trial slot inside.
+  acts = λ attempt slot inside.
       let logs = rw (
         sym slot,
         c.removal_records-records.ensures.grants,
@@ -100,7 +100,7 @@ returns-in-Ok g c = record {
       (removed_acts _ c.requires.good c.args.address c.args.key c.requires.known
       c.position.result
       (λ store shown. c.position.ensures.value _ store shown.shows c.requires.good.names
-      (inside store shown)) trial c.in-Some.place c.in-Some.is _ _ _ _ c.in-Ok.ensures.sound keeps
+      (inside store shown)) attempt c.in-Some.place c.in-Some.is _ _ _ _ c.in-Ok.ensures.sound keeps
       logs change
       (record { text = omega arith; sought = omega arith; words = c.in-Ok.ensures.room })
       (record {

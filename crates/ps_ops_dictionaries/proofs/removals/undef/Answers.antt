@@ -16,7 +16,7 @@ use Rattle.ps_ops_dictionaries.proofs.removals.undef.Goals as goal
 
 pub returns-in_default-as_dictionary : goal.returns-in_default-as_dictionary
 returns-in_default-as_dictionary g c =
-    let held = first_of_two_held (IsValue (g.M.Memory.heap c.args.memory.now)) _
+    let held = first_of_two_held (IsValue (g.M.Memory.heap c.args.runtime.now.memory)) _
     c.requires.good.operands _ _ c.in-Some.ensures in
     record {
       acts = raised_acts _ _ _ _ c.requires.good TypeCheck
@@ -26,7 +26,7 @@ returns-in_default-as_dictionary g c =
 
 pub returns-then-not-is_readable_key : goal.returns-then-not-is_readable_key
 returns-then-not-is_readable_key g c =
-    let held = first_of_two_held (IsValue (g.M.Memory.heap c.args.memory.now)) _
+    let held = first_of_two_held (IsValue (g.M.Memory.heap c.args.runtime.now.memory)) _
     c.requires.good.operands _ _ c.in-Some.ensures in
     record {
       acts = raised_acts _ _ _ _ c.requires.good InvalidAccess
@@ -37,13 +37,13 @@ returns-then-not-is_readable_key g c =
 
 pub access-requires-clause-known : goal.access-requires-clause-known
 access-requires-clause-known g c =
-    dictionary_stands (g.M.Memory.heap c.args.memory.now) _
-    (second_held (IsValue (g.M.Memory.heap c.args.memory.now)) _ c.requires.good.operands _ _
+    dictionary_stands (g.M.Memory.heap c.args.runtime.now.memory) _
+    (second_held (IsValue (g.M.Memory.heap c.args.runtime.now.memory)) _ c.requires.good.operands _ _
     c.in-Some.ensures) _ c.in-Some-as_dictionary.ensures
 
 pub returns-then-not-is_writable : goal.returns-then-not-is_writable
 returns-then-not-is_writable g c =
-    let held = first_of_two_held (IsValue (g.M.Memory.heap c.args.memory.now)) _
+    let held = first_of_two_held (IsValue (g.M.Memory.heap c.args.runtime.now.memory)) _
     c.requires.good.operands _ _ c.in-Some.ensures in
     rw (c.access.ensures.heap, c.access.ensures.grants)
     (record {
@@ -56,13 +56,13 @@ returns-then-not-is_writable g c =
 
 pub remove_key-requires-clause-known : goal.remove_key-requires-clause-known
 remove_key-requires-clause-known g c = rw (c.read_key-read.ensures.heap, c.access.ensures.heap)
-    (dictionary_stands (g.M.Memory.heap c.args.memory.now) _
-    (second_held (IsValue (g.M.Memory.heap c.args.memory.now)) _ c.requires.good.operands _ _
+    (dictionary_stands (g.M.Memory.heap c.args.runtime.now.memory) _
+    (second_held (IsValue (g.M.Memory.heap c.args.runtime.now.memory)) _ c.requires.good.operands _ _
     c.in-Some.ensures) _ c.in-Some-as_dictionary.ensures)
 
 pub returns-in-Some-word : goal.returns-in-Some-word
 returns-in-Some-word g c =
-    let held = first_of_two_held (IsValue (g.M.Memory.heap c.args.memory.now)) _
+    let held = first_of_two_held (IsValue (g.M.Memory.heap c.args.runtime.now.memory)) _
     c.requires.good.operands _ _ c.in-Some.ensures in
     let some = c.is_null.ensures _ _ held ∙ c.if-is_null.false in
     let key = rw c.access.ensures.heap at c.read_key-read.ensures.key in
@@ -82,14 +82,14 @@ returns-in-Some-word g c =
           (asked_acts _ _ _ _ _ _ _
           (undef_asked_is _ _ _ c.in-Some.ensures some _ c.in-Some-as_dictionary.ensures readable _
           c.access.ensures.value may c.requires.good _ key _ met)
-          (acts.acts c.args.trial refl
+          (acts.acts c.args.attempt refl
           (met_inside _ _ _ c.in-Some.ensures some _ c.in-Some-as_dictionary.ensures readable _
           c.access.ensures.value may c.requires.good _ key _ met)));
     }
 
 pub returns-in_ok-form_key-in-None : goal.returns-in_ok-form_key-in-None
 returns-in_ok-form_key-in-None g c =
-    let heap = g.M.Memory.heap c.args.memory.now in
+    let heap = g.M.Memory.heap c.args.runtime.now.memory in
     let births = birth_at heap in
     let ops = c.args.context.now.operands in
     let held = first_of_two_held (IsValue heap) _ c.requires.good.operands _ _ c.in-Some.ensures in
@@ -113,7 +113,7 @@ returns-in_ok-form_key-in-None g c =
           (undef_asks_nothing _ _ _ c.in-Some.ensures some _ c.in-Some-as_dictionary.ensures
           readable _ c.access.ensures.value may c.requires.good _ key
           (sym c.in-None.ensures) known)
-          (formed_name_acts _ _ c.requires.good c.args.trial c.in-Some.key _ key
+          (formed_name_acts _ _ c.requires.good c.args.attempt c.in-Some.key _ key
           (λ store shown. first_of_two_held (IsWithin births _ store) _ shown.operands _ _
           c.in-Some.ensures) (drop 2 ops) _
           (undef_tail _ _ _ c.in-Some.ensures some _ c.in-Some-as_dictionary.ensures readable _
@@ -126,7 +126,7 @@ returns-in_ok-form_key-in-None g c =
 
 pub returns-in_err-form_key-in-None : goal.returns-in_err-form_key-in-None
 returns-in_err-form_key-in-None g c =
-    let heap = g.M.Memory.heap c.args.memory.now in
+    let heap = g.M.Memory.heap c.args.runtime.now.memory in
     let births = birth_at heap in
     let held = first_of_two_held (IsValue heap) _ c.requires.good.operands _ _ c.in-Some.ensures in
     let some = c.is_null.ensures _ _ held ∙ c.if-is_null.false in
@@ -150,7 +150,7 @@ returns-in_err-form_key-in-None g c =
           (undef_asks_nothing _ _ _ c.in-Some.ensures some _ c.in-Some-as_dictionary.ensures
           readable _ c.access.ensures.value may c.requires.good _ key
           (sym c.in-None.ensures) known)
-          (fault_acts _ _ c.requires.good c.args.trial c.in-Some.key _ key
+          (fault_acts _ _ c.requires.good c.args.attempt c.in-Some.key _ key
           (λ store shown. first_of_two_held (IsWithin births _ store) _ shown.operands _ _
           c.in-Some.ensures) [] _
           (undef_tail _ _ _ c.in-Some.ensures some _ c.in-Some-as_dictionary.ensures readable _

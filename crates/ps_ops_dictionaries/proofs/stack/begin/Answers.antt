@@ -12,29 +12,29 @@ use Rattle.ps_ops_dictionaries.proofs.Stacking.{begin_empty, begin_wrong, begin_
 use Rattle.ps_ops_dictionaries.proofs.stack.begin.Goals as goal
 
 pub returns-in_default-clause-acts : goal.returns-in_default-clause-acts
-returns-in_default-clause-acts g c = λ trial. raised_acts _ trial _ _ c.requires.good StackUnderflow
+returns-in_default-clause-acts g c = λ attempt. raised_acts _ attempt _ _ c.requires.good StackUnderflow
     (begin_empty _ (sym c.in_default.is ∙ c.top.ensures))
 
 pub returns-in_default-as_dictionary-clause-acts : goal.returns-in_default-as_dictionary-clause-acts
 returns-in_default-as_dictionary-clause-acts g c =
-    λ trial. raised_acts _ trial _ _ c.requires.good TypeCheck
+    λ attempt. raised_acts _ attempt _ _ c.requires.good TypeCheck
     (begin_wrong _ _ c.in-Some.ensures c.in_default-as_dictionary.ensures)
 
 pub access-requires-clause-known : goal.access-requires-clause-known
 access-requires-clause-known g c =
-    dictionary_stands (g.M.Memory.heap c.args.memory.now) _
-    (first_held (IsValue (g.M.Memory.heap c.args.memory.now)) _ c.requires.good.operands _
+    dictionary_stands (g.M.Memory.heap c.args.runtime.now.memory) _
+    (first_held (IsValue (g.M.Memory.heap c.args.runtime.now.memory)) _ c.requires.good.operands _
     c.in-Some.ensures) _ c.in-Some-as_dictionary.ensures
 
 pub returns-then-not-is_readable-clause-acts : goal.returns-then-not-is_readable-clause-acts
 returns-then-not-is_readable-clause-acts g c = rw (c.access.ensures.heap, c.access.ensures.grants)
-    (λ trial. raised_acts _ trial _ _ c.requires.good InvalidAccess
+    (λ attempt. raised_acts _ attempt _ _ c.requires.good InvalidAccess
     (begin_hidden _ _ c.in-Some.ensures _ c.in-Some-as_dictionary.ensures _
     c.access.ensures.value (sym c.is_readable.ensures ∙ c.if-not-is_readable.true)))
 
 pub returns-then-is_full-clause-acts : goal.returns-then-is_full-clause-acts
 returns-then-is_full-clause-acts g c = rw (c.access.ensures.heap, c.access.ensures.grants)
-    (λ trial. raised_acts _ trial _ _ c.requires.good DictStackOverflow
+    (λ attempt. raised_acts _ attempt _ _ c.requires.good DictStackOverflow
     (begin_full _ _ c.in-Some.ensures _ c.in-Some-as_dictionary.ensures _
     c.access.ensures.value (sym c.is_readable.ensures ∙ c.if-not-is_readable.false)
     (grind (arith, nat_tests, c.is_full.ensures, c.if-is_full.true))))
@@ -46,9 +46,9 @@ returns-clause-acts g c = rw (
   c.discard.ensures,
   c.push_within.ensures,
 )
-    (λ trial. stacked_acts _ _ _ _ _ trial c.requires.good
-    (rest_held (IsValue (g.M.Memory.heap c.args.memory.now)) _ c.requires.good.operands 1) (
-      first_held (IsValue (g.M.Memory.heap c.args.memory.now)) _ c.requires.good.operands _
+    (λ attempt. stacked_acts _ _ _ _ _ attempt c.requires.good
+    (rest_held (IsValue (g.M.Memory.heap c.args.runtime.now.memory)) _ c.requires.good.operands 1) (
+      first_held (IsValue (g.M.Memory.heap c.args.runtime.now.memory)) _ c.requires.good.operands _
           c.in-Some.ensures,
       c.requires.good.dictionaries,
     )

@@ -9,7 +9,7 @@ use Rattle.ps_ops_dictionaries.proofs.stack.cleardictstack.Goals as goal
 pub returns : goal.returns
 returns g c = rw (c.discard.ensures)
     (record {
-      acts = λ trial. stacked_acts _ _ _ _ _ trial c.requires.good c.requires.good.operands
-          (rest_held (IsValue (g.M.Memory.heap c.args.memory.now)) _ c.requires.good.dictionaries _)
+      acts = λ attempt. stacked_acts _ _ _ _ _ attempt c.requires.good c.requires.good.operands
+          (rest_held (IsValue (g.M.Memory.heap c.args.runtime.now.memory)) _ c.requires.good.dictionaries _)
           (cleared_stacks _ _ (omega (arith, c.saturating_sub-above.ensures, c.len.ensures.count)));
     })

@@ -10,7 +10,7 @@ use Rattle.ps_ops_dictionaries.proofs.stack.countdictstack.Goals as goal
 pub returns : goal.returns
 returns g c = rw (c.made.ensures)
     (record {
-      acts = λ trial. pushed_acts _ _ _ _ trial c.requires.good
+      acts = λ attempt. pushed_acts _ _ _ _ attempt c.requires.good
           (plain_value _ _ c.integer.ensures.plain) _ _ c.push.ensures.row
           (count_pushes _ _ c.integer.ensures.plain
           (λ births names. c.integer.ensures.value births names

@@ -10,15 +10,15 @@ use Rattle.ps_ops_dictionaries.proofs.stack.currentdict.Goals as goal
 
 pub returns-in_default : goal.returns-in_default
 returns-in_default g c = record {
-  acts = λ trial. raised_acts _ trial _ _ c.requires.good DictStackUnderflow
+  acts = λ attempt. raised_acts _ attempt _ _ c.requires.good DictStackUnderflow
       (current_none _ (sym c.in_default.is ∙ c.top.ensures));
 }
 
 pub returns : goal.returns
 returns g c = rw (c.made.ensures)
     (record {
-      acts = λ trial. pushed_acts _ _ _ _ trial c.requires.good
-          (first_held (IsValue (g.M.Memory.heap c.args.memory.now)) _ c.requires.good.dictionaries _
+      acts = λ attempt. pushed_acts _ _ _ _ attempt c.requires.good
+          (first_held (IsValue (g.M.Memory.heap c.args.runtime.now.memory)) _ c.requires.good.dictionaries _
           c.in-Some.ensures) _ _ c.push.ensures.row (current_pushes _ _ c.in-Some.ensures)
           c.push.ensures.pushed c.push.ensures.full;
     })

@@ -66,7 +66,7 @@ returns-then-pair g c =
 
 pub copy_contents-requires-clause-pair : goal.copy_contents-requires-clause-pair
 copy_contents-requires-clause-pair g c =
-    let h = g.M.Memory.heap c.args.memory.now in
+    let h = g.M.Memory.heap c.args.runtime.now.memory in
     let tops = two_tops _ _ _ c.in-Some.ensures c.in-Some-peek.ensures in
     c.in-Some-pair_of.ensures.stands h
     (second_held (IsValue h) _ c.requires.good.operands _ _ tops)
@@ -90,7 +90,7 @@ returns-in-Err g c =
 
 pub returns : goal.returns
 returns g c =
-    let h = g.M.Memory.heap c.args.memory.now in
+    let h = g.M.Memory.heap c.args.runtime.now.memory in
     let number = ap is_some (sym c.as_integer.ensures)
     ∙ (sym c.is_some.ensures ∙ c.if-is_some.false) in
     let pair = c.in-Some-pair_of.pair in
@@ -110,7 +110,7 @@ returns g c =
           c.in-Some.ensures),
       rest_held (IsValue h) _ c.requires.good.operands 2,
     )
-    (ap (λ (v : Value). v ∷ values_in h c.args.shared.now.names
+    (ap (λ (v : Value). v ∷ values_in h c.args.runtime.now.shared.names
     (drop 2 c.args.context.now.operands)) (sym (c.front_of.ensures.value _ _)))
     (λ store shown. (
       c.front_of.ensures.within (birth_at h) _ store

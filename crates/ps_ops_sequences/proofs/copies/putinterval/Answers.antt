@@ -31,7 +31,7 @@ returns-in_default-interval_within g c =
 
 pub copy_contents-requires-clause-pair : goal.copy_contents-requires-clause-pair
 copy_contents-requires-clause-pair g c =
-    let h = g.M.Memory.heap c.args.memory.now in
+    let h = g.M.Memory.heap c.args.runtime.now.memory in
     c.in-Some-pair_of.ensures.stands h
     (first_of_three_held (IsValue h) _ c.requires.good.operands _ _ _ c.in-Some.ensures)
     (third_held (IsValue h) _ c.requires.good.operands _ _ _ c.in-Some.ensures)
@@ -51,7 +51,7 @@ returns-in-Err g c =
 
 pub returns : goal.returns
 returns g c =
-    let h = g.M.Memory.heap c.args.memory.now in
+    let h = g.M.Memory.heap c.args.runtime.now.memory in
     let fits : SFits w32 c.in-Some-integer_of.number = search rules in
     rw c.discard.ensures (copied_acts _ _ _ _ _ _ _ _ _ c.requires.good
     c.in-Some-interval_within.ensures.within (c.in-Some-pair_of.ensures.from _ _)

@@ -13,12 +13,12 @@ use Rattle.ps_ops_sequences.proofs.lengths.length.Goals as goal
 
 pub returns-in_default-measure-clause-acts : goal.returns-in_default-measure-clause-acts
 returns-in_default-measure-clause-acts g c = rw (c.measure.ensures.heap, c.measure.ensures.grants)
-    (λ trial. raised_acts _ trial _ _ c.requires.good TypeCheck
+    (λ attempt. raised_acts _ attempt _ _ c.requires.good TypeCheck
     (length_wrong _ _ c.in-Some.ensures (λ store shows. c.in_default-measure.ensures.length store shows)))
 
 pub returns-then-not-is_readable-clause-acts : goal.returns-then-not-is_readable-clause-acts
 returns-then-not-is_readable-clause-acts g c = rw (c.measure.ensures.heap, c.measure.ensures.grants)
-    (λ trial. raised_acts _ trial _ _ c.requires.good InvalidAccess
+    (λ attempt. raised_acts _ attempt _ _ c.requires.good InvalidAccess
     (length_hidden _ _ c.in-Some.ensures _ (λ store shows. c.in-Some-measure.ensures.length store shows)
     (λ store shows. c.in-Some-measure.ensures.access store shows ∙ sym c.is_readable.ensures
     ∙ c.if-not-is_readable.true)))
@@ -29,12 +29,12 @@ returns-clause-acts g c = rw (
   c.measure.ensures.grants,
   c.replace.ensures,
 )
-    (λ trial. words_acts _ trial _ _ _ c.requires.good (
-      plain_value (g.M.Memory.heap c.args.memory.now) _ c.integer.ensures.plain,
-      rest_held (IsValue (g.M.Memory.heap c.args.memory.now)) _ c.requires.good.operands 1,
+    (λ attempt. words_acts _ attempt _ _ _ c.requires.good (
+      plain_value (g.M.Memory.heap c.args.runtime.now.memory) _ c.integer.ensures.plain,
+      rest_held (IsValue (g.M.Memory.heap c.args.runtime.now.memory)) _ c.requires.good.operands 1,
     )
     (length_left _ _ c.in-Some.ensures _ (λ store shows. c.in-Some-measure.ensures.length store shows)
     (λ store shows. c.in-Some-measure.ensures.access store shows ∙ sym c.is_readable.ensures
     ∙ c.if-not-is_readable.false)
-    trial _ c.integer.ensures.plain (λ births names. c.integer.ensures.value births names
+    attempt _ c.integer.ensures.plain (λ births names. c.integer.ensures.value births names
     ∙ ap integer (to_z_pos w32 c.in-Some-measure.count c.in-Some-measure.ensures.few))))

@@ -17,7 +17,7 @@ returns-then-not-reduces_to g c = raised_acts _ _ _ _ c.requires.good InvalidAcc
 
 pub returns-in-Some-as_part : goal.returns-in-Some-as_part
 returns-in-Some-as_part g c =
-    let h = g.M.Memory.heap c.args.memory.now in
+    let h = g.M.Memory.heap c.args.runtime.now.memory in
     let held = first_held (IsValue h) _ c.requires.good.operands _ c.in-Some.ensures in
     rw c.replace.ensures (words_acts _ _ _ _ _ c.requires.good (
       reduced_held c.args.reduced _ _ c.with_access.ensures.value h held c.with_access.ensures.word,
@@ -33,13 +33,13 @@ returns-in_default-as_dictionary g c = raised_acts _ _ _ _ c.requires.good TypeC
 
 pub access-requires-clause-known : goal.access-requires-clause-known
 access-requires-clause-known g c =
-    let h = g.M.Memory.heap c.args.memory.now in
+    let h = g.M.Memory.heap c.args.runtime.now.memory in
     dictionary_stands h _ (first_held (IsValue h) _ c.requires.good.operands _ c.in-Some.ensures) _
     c.in-Some-as_dictionary.ensures
 
 pub returns-then-not-reduces_to-2 : goal.returns-then-not-reduces_to-2
 returns-then-not-reduces_to-2 g c =
-    let h = g.M.Memory.heap c.args.memory.now in
+    let h = g.M.Memory.heap c.args.runtime.now.memory in
     let held = first_held (IsValue h) _ c.requires.good.operands _ c.in-Some.ensures in
     rw (c.access.ensures.heap, c.access.ensures.grants) (raised_acts _ _ _ _ c.requires.good
     InvalidAccess (reduce_refused _ _ _ c.in-Some.ensures _ c.in-Some-as_dictionary.ensures
@@ -48,14 +48,14 @@ returns-then-not-reduces_to-2 g c =
 
 pub reduce_dictionary-requires-clause-known : goal.reduce_dictionary-requires-clause-known
 reduce_dictionary-requires-clause-known g c =
-    let h = g.M.Memory.heap c.args.memory.now in
+    let h = g.M.Memory.heap c.args.runtime.now.memory in
     rw c.access.ensures.heap (dictionary_stands h _
     (first_held (IsValue h) _ c.requires.good.operands _ c.in-Some.ensures) _
     c.in-Some-as_dictionary.ensures)
 
 pub returns-in-Ok : goal.returns-in-Ok
 returns-in-Ok g c =
-    let h = g.M.Memory.heap c.args.memory.now in
+    let h = g.M.Memory.heap c.args.runtime.now.memory in
     let held = first_held (IsValue h) _ c.requires.good.operands _ c.in-Some.ensures in
     let done = rw (c.access.ensures.heap, c.access.ensures.grants) at c.in-Ok.ensures in
     reduced_acts _ _ _ c.in-Some.ensures _ c.in-Some-as_dictionary.ensures
@@ -66,7 +66,7 @@ returns-in-Ok g c =
 
 pub returns-in-Err : goal.returns-in-Err
 returns-in-Err g c =
-    let h = g.M.Memory.heap c.args.memory.now in
+    let h = g.M.Memory.heap c.args.runtime.now.memory in
     let held = first_held (IsValue h) _ c.requires.good.operands _ c.in-Some.ensures in
     let none = rw (c.access.ensures.heap, c.access.ensures.grants) at c.in-Err.ensures in
     rw none.same (unreduced_acts _ _ _ c.in-Some.ensures _ c.in-Some-as_dictionary.ensures

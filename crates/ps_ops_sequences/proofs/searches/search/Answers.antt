@@ -7,8 +7,8 @@ use Rattle.ps_ops_sequences.proofs.searches.search.Goals as goal
 
 pub returns : goal.returns
 returns g c = record {
-  acts = λ trial. came_acts trial _ _ _ _ _ _ c.tried.ensures
-      (searches_acts _ c.requires.good trial _ _ _ _ _ c.search.ensures.heap
+  acts = λ attempt. came_acts attempt _ _ _ _ _ _ c.tried.ensures
+      (searches_acts _ c.requires.good attempt _ _ _ _ _ c.search.ensures.heap
       c.search.ensures.grants c.search.ensures.does c.search.ensures.ready (record {
         text = c.search.ensures.text;
         sought = c.search.ensures.sought;
@@ -16,6 +16,6 @@ returns g c = record {
       }) (record {
         text = c.search.ensures.room.0;
         sought = c.search.ensures.room.1;
-        words = (at_least-same (rooms_of c.args.shared.now.scratch)).words;
+        words = (at_least-same (rooms_of c.args.runtime.now.shared.scratch)).words;
       }));
 }

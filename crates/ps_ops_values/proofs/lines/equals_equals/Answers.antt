@@ -13,18 +13,18 @@ use Rattle.ps_ops_values.proofs.lines.equals_equals.Goals as goal
 
 pub returns-in_default : goal.returns-in_default
 returns-in_default g c = record {
-  acts = λ trial. raised_acts _ trial _ _ c.requires.good StackUnderflow
+  acts = λ attempt. raised_acts _ attempt _ _ c.requires.good StackUnderflow
       (line_empty full_text _ (sym c.in_default.is ∙ c.top.ensures));
 }
 
 pub print_full_line-requires-clause-held : goal.print_full_line-requires-clause-held
 print_full_line-requires-clause-held g c =
-    first_held (IsValue (g.M.Memory.heap c.args.memory.now)) _ c.requires.good.operands _
+    first_held (IsValue (g.M.Memory.heap c.args.runtime.now.memory)) _ c.requires.good.operands _
     c.in-Some.ensures
 
 pub returns-in-Ok : goal.returns-in-Ok
 returns-in-Ok g c =
-    let births = birth_at (g.M.Memory.heap c.args.memory.now) in
+    let births = birth_at (g.M.Memory.heap c.args.runtime.now.memory) in
     rw (
       c.discard.ensures,
       c.print_full_line.ensures.heap,
@@ -32,18 +32,18 @@ returns-in-Ok g c =
       c.print_full_line.ensures.bounded.most,
     )
     (record {
-      acts = λ trial. left_acts _ trial _ _ c.requires.good _ (good_drop _ _ _ 1 c.requires.good)
+      acts = λ attempt. left_acts _ attempt _ _ c.requires.good _ (good_drop _ _ _ 1 c.requires.good)
           (keeps-same _)
           (stays_as _ _ refl refl refl refl c.print_full_line.ensures.bounded.capacity
           (at_least-same _)) (logs-same _ _ _)
-          (prints_made _ _ 1 _ trial (line_prints full_text _ _ c.in-Some.ensures) _ _
+          (prints_made _ _ 1 _ attempt (line_prints full_text _ _ c.in-Some.ensures) _ _
           (λ store shown. (c.in-Ok.ensures.prints store shown.shows
           (first_held (IsWithin births _ store) _ shown.operands _ c.in-Some.ensures)).ok));
     })
 
 pub returns-in-Err : goal.returns-in-Err
 returns-in-Err g c =
-    let births = birth_at (g.M.Memory.heap c.args.memory.now) in
+    let births = birth_at (g.M.Memory.heap c.args.runtime.now.memory) in
     rw (
       c.print_full_line.ensures.heap,
       c.print_full_line.ensures.grants,
@@ -51,11 +51,11 @@ returns-in-Err g c =
       c.in-Err.ensures.err,
     )
     (record {
-      acts = λ trial. wanting_acts _ trial _ _ c.requires.good _ _ _
+      acts = λ attempt. wanting_acts _ attempt _ _ c.requires.good _ _ _
           (let kept = rw c.in-Err.ensures.err at c.print_full_line.ensures.bounded.capacity in
           omega (arith, kept)) (at_least-same _)
           c.requires.good.empty (logs-same 0 _ _) Memory
-          (prints_wants _ _ 1 _ trial (line_prints full_text _ _ c.in-Some.ensures) _
+          (prints_wants _ _ 1 _ attempt (line_prints full_text _ _ c.in-Some.ensures) _
           (λ store shown. (c.in-Err.ensures.prints store shown.shows
           (first_held (IsWithin births _ store) _ shown.operands _ c.in-Some.ensures)).full));
     })

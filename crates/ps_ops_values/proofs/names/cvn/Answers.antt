@@ -9,10 +9,10 @@ use Rattle.ps_ops_values.proofs.names.cvn.Goals as goal
 
 pub returns-in-Err : goal.returns-in-Err
 returns-in-Err g c =
-    let births = birth_at (g.M.Memory.heap c.args.memory.now) in
+    let births = birth_at (g.M.Memory.heap c.args.runtime.now.memory) in
     rw (c.read_key-key.ensures.heap, c.read_key-key.ensures.grants)
     (record {
-      acts = λ trial. fault_acts _ _ c.requires.good trial c.in-Some.string _
+      acts = λ attempt. fault_acts _ _ c.requires.good attempt c.in-Some.string _
           c.read_key-key.ensures.key
           (λ store shown. first_held (IsWithin births _ store) _ shown.operands _
           c.in-Some.ensures) [] _
@@ -27,8 +27,8 @@ returns g c =
     let is = rw c.len-count.ensures.count at c.formed_word-name.ensures in
     rw (c.replace.ensures, c.read_key-key.ensures.heap, c.read_key-key.ensures.grants)
     (record {
-      acts = λ trial. cvn_acts _ _ c.in-Some.ensures _ (c.in-Some-string_of.ensures.part _ _)
-          c.len-count.ensures.names _ c.requires.good trial
+      acts = λ attempt. cvn_acts _ _ c.in-Some.ensures _ (c.in-Some-string_of.ensures.part _ _)
+          c.len-count.ensures.names _ c.requires.good attempt
           (sym c.is_readable.ensures ∙ c.if-not-is_readable.false) _ c.read_key-key.ensures.key
           c.in_default-form_key.ensures.did made.0 made.1 _ is c.is_executable.result
           c.is_executable.ensures _ c.with_executable.ensures.value c.with_executable.ensures.word;

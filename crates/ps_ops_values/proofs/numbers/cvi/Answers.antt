@@ -15,32 +15,32 @@ use Rattle.ps_ops_values.proofs.numbers.cvi.Goals as goal
 
 pub returns-then-is_some : goal.returns-then-is_some
 returns-then-is_some g c = record {
-  acts = λ trial. words_acts _ trial _ _ _ c.requires.good c.requires.good.operands
+  acts = λ attempt. words_acts _ attempt _ _ _ c.requires.good c.requires.good.operands
       (cvi_stays _ _ c.in-Some.ensures (ap is_some (c.integer_of.ensures _ _)
-      ∙ (sym c.is_some.ensures ∙ c.if-is_some.true)) trial);
+      ∙ (sym c.is_some.ensures ∙ c.if-is_some.true)) attempt);
 }
 
 pub returns-in_default-string_of : goal.returns-in_default-string_of
 returns-in_default-string_of g c = record {
-  acts = λ trial. raised_acts _ trial _ _ c.requires.good TypeCheck
+  acts = λ attempt. raised_acts _ attempt _ _ c.requires.good TypeCheck
       (cvi_wrong _ _ c.in-Some.ensures (ap is_some (c.integer_of.ensures _ _)
       ∙ (sym c.is_some.ensures ∙ c.if-is_some.false)) (c.in_default-string_of.ensures.part _ _));
 }
 
 pub returns-then-not-is_readable : goal.returns-then-not-is_readable
 returns-then-not-is_readable g c = record {
-  acts = λ trial. raised_acts _ trial _ _ c.requires.good InvalidAccess
+  acts = λ attempt. raised_acts _ attempt _ _ c.requires.good InvalidAccess
       (cvi_hidden _ _ c.in-Some.ensures _ (c.in-Some-string_of.ensures.part _ _)
       (sym c.is_readable.ensures ∙ c.if-not-is_readable.true));
 }
 
 pub returns-in-Ok : goal.returns-in-Ok
 returns-in-Ok g c =
-    let h = g.M.Memory.heap c.args.memory.now in
+    let h = g.M.Memory.heap c.args.runtime.now.memory in
     let same : to_z w32 (of_z w32 c.in-Ok.number) ≡ c.in-Ok.number = omega (arith, ints) in
     rw (c.number_of_string.ensures.heap, c.number_of_string.ensures.grants, c.replace.ensures)
     (record {
-      acts = λ trial. words_acts _ trial _ _ _ c.requires.good (
+      acts = λ attempt. words_acts _ attempt _ _ _ c.requires.good (
         plain_value h _ c.integer.ensures.plain,
         rest_held (IsValue h) _ c.requires.good.operands 1,
       )
@@ -49,17 +49,17 @@ returns-in-Ok g c =
           (λ store shown. c.in-Ok.ensures.value _ store shown.shows
           (c.in-Some-string_of.ensures.within (birth_at h) _ store
           (first_held (IsWithin (birth_at h) _ store) _ shown.operands _ c.in-Some.ensures)))
-          c.in-Ok.number refl trial _ c.integer.ensures.plain
+          c.in-Ok.number refl attempt _ c.integer.ensures.plain
           (λ births names. c.integer.ensures.value births names ∙ ap integer same));
     })
 
 pub returns-in-Err-NoNumber : goal.returns-in-Err-NoNumber
 returns-in-Err-NoNumber g c =
-    let h = g.M.Memory.heap c.args.memory.now in
+    let h = g.M.Memory.heap c.args.runtime.now.memory in
     let read = rw c.in-Err-NoNumber.field-0-is at c.in-Err-NoNumber.ensures.value in
     rw (c.number_of_string.ensures.heap, c.number_of_string.ensures.grants)
     (record {
-      acts = λ trial. raised_acts _ trial _ _ c.requires.good TypeCheck
+      acts = λ attempt. raised_acts _ attempt _ _ c.requires.good TypeCheck
           (cvi_read _ _ c.in-Some.ensures _ (c.in-Some-string_of.ensures.part _ _)
           (sym c.is_readable.ensures ∙ c.if-not-is_readable.false) (Err NoNumber)
           (λ store shown. read _ store shown.shows
@@ -69,11 +69,11 @@ returns-in-Err-NoNumber g c =
 
 pub returns-in-Err-Syntax : goal.returns-in-Err-Syntax
 returns-in-Err-Syntax g c =
-    let h = g.M.Memory.heap c.args.memory.now in
+    let h = g.M.Memory.heap c.args.runtime.now.memory in
     let read = rw c.in-Err-Syntax.field-0-is at c.in-Err-Syntax.ensures.value in
     rw (c.number_of_string.ensures.heap, c.number_of_string.ensures.grants)
     (record {
-      acts = λ trial. raised_acts _ trial _ _ c.requires.good SyntaxError
+      acts = λ attempt. raised_acts _ attempt _ _ c.requires.good SyntaxError
           (cvi_read _ _ c.in-Some.ensures _ (c.in-Some-string_of.ensures.part _ _)
           (sym c.is_readable.ensures ∙ c.if-not-is_readable.false) (Err Syntax)
           (λ store shown. read _ store shown.shows
@@ -83,11 +83,11 @@ returns-in-Err-Syntax g c =
 
 pub returns-in-Err-Limit : goal.returns-in-Err-Limit
 returns-in-Err-Limit g c =
-    let h = g.M.Memory.heap c.args.memory.now in
+    let h = g.M.Memory.heap c.args.runtime.now.memory in
     let read = rw c.in-Err-Limit.field-0-is at c.in-Err-Limit.ensures.value in
     rw (c.number_of_string.ensures.heap, c.number_of_string.ensures.grants)
     (record {
-      acts = λ trial. raised_acts _ trial _ _ c.requires.good LimitCheck
+      acts = λ attempt. raised_acts _ attempt _ _ c.requires.good LimitCheck
           (cvi_read _ _ c.in-Some.ensures _ (c.in-Some-string_of.ensures.part _ _)
           (sym c.is_readable.ensures ∙ c.if-not-is_readable.false) (Err Limit)
           (λ store shown. read _ store shown.shows

@@ -18,9 +18,9 @@ use Rattle.ps_ops_values.proofs.texts.cvs.Goals as goal
 
 pub returns-in-Err-TooLong : goal.returns-in-Err-TooLong
 returns-in-Err-TooLong g c =
-    let h = g.M.Memory.heap c.args.memory.now in
+    let h = g.M.Memory.heap c.args.runtime.now.memory in
     let good = c.requires.good in
-    let same = at_least-same (rooms_of c.args.shared.now.scratch) in
+    let same = at_least-same (rooms_of c.args.runtime.now.shared.scratch) in
     let reads = rw c.in-Err-TooLong.field-0-is at c.in-Err-TooLong.ensures.reads in
     rw (c.read_text.ensures.heap, c.read_text.ensures.grants) (raising_acts _ _ _ _ good _ _ _
     (omega arith) (record {
@@ -32,18 +32,18 @@ returns-in-Err-TooLong g c =
       sought = good.empty.sought;
       words = good.empty.words;
     }) (logs-same 0 _ _) RangeCheck (λ store shown.
-    cvs_long _ good c.args.trial _ _ c.in-Some.ensures c.in-Some-string_of.part
+    cvs_long _ good c.args.attempt _ _ c.in-Some.ensures c.in-Some-string_of.part
     (c.in-Some-string_of.ensures.part _ _) (sym c.is_writable.ensures ∙ c.if-not-is_writable.false)
     store shown (reads store shown.shows (second_held (IsWithin (birth_at h) _ store) _
     shown.operands _ _ c.in-Some.ensures))))
 
 pub returns-in-Err-Memory : goal.returns-in-Err-Memory
 returns-in-Err-Memory g c =
-    let h = g.M.Memory.heap c.args.memory.now in
+    let h = g.M.Memory.heap c.args.runtime.now.memory in
     let good = c.requires.good in
-    let same = at_least-same (rooms_of c.args.shared.now.scratch) in
+    let same = at_least-same (rooms_of c.args.runtime.now.shared.scratch) in
     let reads = rw c.in-Err-Memory.field-0-is at c.in-Err-Memory.ensures.reads in
-    rw (c.read_text.ensures.heap, c.read_text.ensures.grants) (cvs_wants _ good c.args.trial _ _
+    rw (c.read_text.ensures.heap, c.read_text.ensures.grants) (cvs_wants _ good c.args.attempt _ _
     c.in-Some.ensures c.in-Some-string_of.part
     (c.in-Some-string_of.ensures.part _ _) (sym c.is_writable.ensures ∙ c.if-not-is_writable.false)
     (λ store shown. (reads store shown.shows (second_held (IsWithin (birth_at h) _ store) _
@@ -62,50 +62,50 @@ returns-in-Err-Memory g c =
 
 pub returns-then-from-part : goal.returns-then-from-part
 returns-then-from-part g c =
-    let h = g.M.Memory.heap c.args.memory.now in
+    let h = g.M.Memory.heap c.args.runtime.now.memory in
     let good = c.requires.good in
     let from = c.in-Some-readable_part.from in
     let long = c.if-from-part.true in
     raising_acts _ _ _ _ good _ _ _ (omega arith)
-    (at_least-same (rooms_of c.args.shared.now.scratch)) good.empty (logs-same 0 _ _) RangeCheck
+    (at_least-same (rooms_of c.args.runtime.now.shared.scratch)) good.empty (logs-same 0 _ _) RangeCheck
     (λ store shown.
     let count = string_length _ _ _ c.in-Some.ensures from
-    (c.in-Some-readable_part.ensures.text (birth_at h) c.args.shared.now.names)
-    (c.in-Some-readable_part.ensures.within (birth_at h) c.args.shared.now.names) store shown in
-    cvs_long _ good c.args.trial _ _ c.in-Some.ensures c.in-Some-string_of.part
+    (c.in-Some-readable_part.ensures.text (birth_at h) c.args.runtime.now.shared.names)
+    (c.in-Some-readable_part.ensures.within (birth_at h) c.args.runtime.now.shared.names) store shown in
+    cvs_long _ good c.args.attempt _ _ c.in-Some.ensures c.in-Some-string_of.part
     (c.in-Some-string_of.ensures.part _ _) (sym c.is_writable.ensures ∙ c.if-not-is_writable.false)
     store shown (omega (arith, long, count)))
 
 pub returns-in-Err : goal.returns-in-Err
 returns-in-Err g c =
-    let h = g.M.Memory.heap c.args.memory.now in
+    let h = g.M.Memory.heap c.args.runtime.now.memory in
     let good = c.requires.good in
     let from = c.in-Some-readable_part.from in
     let short = c.if-from-part.false in
     let count = string_length _ _ _ c.in-Some.ensures from
-    (c.in-Some-readable_part.ensures.text (birth_at h) c.args.shared.now.names)
-    (c.in-Some-readable_part.ensures.within (birth_at h) c.args.shared.now.names) in
-    rw c.in-Err.ensures.same (cvs_wants _ good c.args.trial _ _ c.in-Some.ensures
+    (c.in-Some-readable_part.ensures.text (birth_at h) c.args.runtime.now.shared.names)
+    (c.in-Some-readable_part.ensures.within (birth_at h) c.args.runtime.now.shared.names) in
+    rw c.in-Err.ensures.same (cvs_wants _ good c.args.attempt _ _ c.in-Some.ensures
     c.in-Some-string_of.part
     (c.in-Some-string_of.ensures.part _ _) (sym c.is_writable.ensures ∙ c.if-not-is_writable.false)
     (λ store shown. let long = count store shown in omega (arith, short, long)) _ _
     c.copy_contents.ensures.room c.copy_contents.ensures.empty c.in-Err.ensures.spends
     c.in-Err.reason
-    (λ store shown. subst (λ n. IsStoreReason Strings n c.args.shared.now.scratch c.args.trial.slot
-    (g.M.Memory.grants c.args.memory.now) (g.M.Memory.grants c.copy_contents.new.memory)
+    (λ store shown. subst (λ n. IsStoreReason Strings n c.args.runtime.now.shared.scratch c.args.attempt.slot
+    (g.M.Memory.grants c.args.runtime.now.memory) (g.M.Memory.grants c.copy_contents.new.memory)
     c.in-Err.reason) (sym (count store shown)) c.in-Err.ensures.reason))
 
 pub returns-in-Some-readable_part : goal.returns-in-Some-readable_part
 returns-in-Some-readable_part g c =
-    let h = g.M.Memory.heap c.args.memory.now in
+    let h = g.M.Memory.heap c.args.runtime.now.memory in
     let good = c.requires.good in
     let from = c.in-Some-readable_part.from in
     let short = c.if-from-part.false in
-    let text = c.in-Some-readable_part.ensures.text (birth_at h) c.args.shared.now.names in
-    let within = c.in-Some-readable_part.ensures.within (birth_at h) c.args.shared.now.names in
+    let text = c.in-Some-readable_part.ensures.text (birth_at h) c.args.runtime.now.shared.names in
+    let within = c.in-Some-readable_part.ensures.within (birth_at h) c.args.runtime.now.shared.names in
     let count = string_length _ _ _ c.in-Some.ensures from text within in
     let target = first_of_two_held (IsValue h) _ good.operands _ _ c.in-Some.ensures in
-    rw c.replace.ensures (cvs_acts _ good c.args.trial _ _ c.in-Some.ensures
+    rw c.replace.ensures (cvs_acts _ good c.args.attempt _ _ c.in-Some.ensures
     c.in-Some-string_of.part
     (c.in-Some-string_of.ensures.part _ _) (sym c.is_writable.ensures ∙ c.if-not-is_writable.false)
     (λ store shown. let long = count store shown in omega (arith, short, long)) _ _ _
@@ -113,7 +113,7 @@ returns-in-Some-readable_part g c =
     c.in_default-copy_contents.ensures.keeps c.in_default-copy_contents.ensures.sound from.length
     count c.in_default-copy_contents.ensures.spends
     (λ store shown. subst (λ (t : List ℕ). Shows (g.M.Memory.heap c.copy_contents.new.memory)
-    c.args.shared.now.names (with_part_bytes store (part_of (birth_at h) c.in-Some-string_of.part)
+    c.args.runtime.now.shared.names (with_part_bytes store (part_of (birth_at h) c.in-Some-string_of.part)
     0 t)) (sym (text store)) (c.in_default-copy_contents.ensures.shows _ store shown.shows record {
       from = within store (second_held (IsWithin (birth_at h) _ store) _ shown.operands _ _
           c.in-Some.ensures);
@@ -121,22 +121,22 @@ returns-in-Some-readable_part g c =
           (IsWithin (birth_at h) _ store) _ shown.operands _ _ c.in-Some.ensures);
     }))
     c.string_interval.result (c.string_interval.ensures.held h target)
-    (c.string_interval.ensures.value (birth_at h) c.args.shared.now.names)
+    (c.string_interval.ensures.value (birth_at h) c.args.runtime.now.shared.names)
     (λ store within. c.string_interval.ensures.within (birth_at h) _ store within))
 
 pub returns-in-Err-write_text : goal.returns-in-Err-write_text
 returns-in-Err-write_text g c =
-    let h = g.M.Memory.heap c.args.memory.now in
+    let h = g.M.Memory.heap c.args.runtime.now.memory in
     let good = c.requires.good in
     let room = c.read_text.ensures.room in
     let more = c.write_text.ensures.room in
-    let text : (rooms_of c.args.shared.now.scratch).text
+    let text : (rooms_of c.args.runtime.now.shared.scratch).text
     ≤ (rooms_of c.write_text.new.scratch).text = omega (arith, room, more.text) in
     let read = c.read_text.new.text.items in
     let same = rw c.read_text.ensures.heap at c.in-Err-write_text.ensures.same in
     let spends = rw c.read_text.ensures.grants at c.in-Err-write_text.ensures.spends in
     let reason = rw c.read_text.ensures.grants at c.in-Err-write_text.ensures.reason in
-    rw same (cvs_wants _ good c.args.trial _ _ c.in-Some.ensures c.in-Some-string_of.part
+    rw same (cvs_wants _ good c.args.attempt _ _ c.in-Some.ensures c.in-Some-string_of.part
     (c.in-Some-string_of.ensures.part _ _) (sym c.is_writable.ensures ∙ c.if-not-is_writable.false)
     (λ store shown. subst (λ (t : List ℕ). length t ≤ c.in-Some-string_of.part.length)
     (c.in-Ok.ensures.reads store shown.shows (second_held (IsWithin (birth_at h) _ store) _
@@ -146,28 +146,28 @@ returns-in-Err-write_text g c =
       words = more.words;
     }) c.write_text.ensures.empty spends c.in-Err-write_text.reason
     (λ store shown. subst (λ (t : List ℕ). IsStoreReason Strings (length t)
-    c.args.shared.now.scratch c.args.trial.slot (g.M.Memory.grants c.args.memory.now)
+    c.args.runtime.now.shared.scratch c.args.attempt.slot (g.M.Memory.grants c.args.runtime.now.memory)
     (g.M.Memory.grants c.write_text.new.memory) c.in-Err-write_text.reason)
     (c.in-Ok.ensures.reads store shown.shows (second_held (IsWithin (birth_at h) _ store) _
     shown.operands _ _ c.in-Some.ensures))
-    (text_reason c.in-Err-write_text.reason (length read) (vec_capacity c.args.shared.now.scratch.text)
-    (vec_capacity c.args.shared.now.scratch.words) c.args.trial.slot
-    (g.M.Memory.grants c.args.memory.now) (g.M.Memory.grants c.write_text.new.memory) reason)))
+    (text_reason c.in-Err-write_text.reason (length read) (vec_capacity c.args.runtime.now.shared.scratch.text)
+    (vec_capacity c.args.runtime.now.shared.scratch.words) c.args.attempt.slot
+    (g.M.Memory.grants c.args.runtime.now.memory) (g.M.Memory.grants c.write_text.new.memory) reason)))
 
 pub returns : goal.returns
 returns g c =
-    let h = g.M.Memory.heap c.args.memory.now in
+    let h = g.M.Memory.heap c.args.runtime.now.memory in
     let good = c.requires.good in
     let read = c.read_text.new.text.items in
     let room = c.read_text.ensures.room in
     let more = c.write_text.ensures.room in
-    let text : (rooms_of c.args.shared.now.scratch).text
+    let text : (rooms_of c.args.runtime.now.shared.scratch).text
     ≤ (rooms_of c.write_text.new.scratch).text = omega (arith, room, more.text) in
     let keeps = rw c.read_text.ensures.heap at c.in_default-write_text.ensures.keeps in
     let shows = rw c.read_text.ensures.heap at c.in_default-write_text.ensures.shows in
     let spends = rw c.read_text.ensures.grants at c.in_default-write_text.ensures.spends in
     let target = first_of_two_held (IsValue h) _ good.operands _ _ c.in-Some.ensures in
-    rw c.replace-2.ensures (cvs_acts _ good c.args.trial _ _ c.in-Some.ensures
+    rw c.replace-2.ensures (cvs_acts _ good c.args.attempt _ _ c.in-Some.ensures
     c.in-Some-string_of.part
     (c.in-Some-string_of.ensures.part _ _) (sym c.is_writable.ensures ∙ c.if-not-is_writable.false)
     (λ store shown. subst (λ (t : List ℕ). length t ≤ c.in-Some-string_of.part.length)
@@ -182,12 +182,12 @@ returns g c =
     (second_held (IsWithin (birth_at h) _ store) _ shown.operands _ _ c.in-Some.ensures))))
     spends
     (λ store shown. subst (λ (t : List ℕ). Shows (g.M.Memory.heap c.write_text.new.memory)
-    c.args.shared.now.names (with_part_bytes store (part_of (birth_at h) c.in-Some-string_of.part)
+    c.args.runtime.now.shared.names (with_part_bytes store (part_of (birth_at h) c.in-Some-string_of.part)
     0 t)) (c.in-Ok.ensures.reads store shown.shows (second_held (IsWithin (birth_at h) _ store) _
     shown.operands _ _ c.in-Some.ensures)) (shows _ store shown.shows
     (c.in-Some-string_of.ensures.within (birth_at h) _ store (first_of_two_held
     (IsWithin (birth_at h) _ store) _ shown.operands _ _ c.in-Some.ensures))))
     c.string_interval-2.result (c.string_interval-2.ensures.held h target)
     (rw c.count_of-count.ensures at
-    (c.string_interval-2.ensures.value (birth_at h) c.args.shared.now.names))
+    (c.string_interval-2.ensures.value (birth_at h) c.args.runtime.now.shared.names))
     (λ store within. c.string_interval-2.ensures.within (birth_at h) _ store within))

@@ -1,7 +1,7 @@
 -- Nothing stands at the new seats, and nothing was moved.
 use Rattle.std.proofs.Common.{ap, ◌∙◌}
 use Rattle.ps_mem.specs.Heap.{Heap, empty_heap}
-use Rattle.ps_core_memory.specs.Memory.{heap_of}
+use Rattle.ps_core_laws.specs.Memory.{heap_of}
 use Rattle.ps_vault.proofs.Beginning.{nothing_stands}
 use Rattle.ps_run_workers.proofs.runs.run_named.Goals as goal
 

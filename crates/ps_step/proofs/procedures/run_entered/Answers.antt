@@ -4,7 +4,7 @@ use Rattle.std.proofs.lemmas.List.{length-drop}
 use Rattle.ps_ops_control.specs.declared.frames.Frame.{Frame}
 use Rattle.ps_ops_control.specs.declared.frames.Frame.TheVariants.{Procedure}
 use Rattle.ps_ops_operands.proofs.Operands.{first_split}
-use Rattle.ps_ops_state.specs.Lent.{Lent, lent, IsGood}
+use Rattle.ps_ops_state.specs.Lent.{Lent, IsGood, lent_of}
 use Rattle.ps_step_frames.specs.Steps.{above, frames_after, part_behind, with_frames}
 use Rattle.ps_step_interpreter.specs.OwnSteps.{HasRun}
 use Rattle.ps_step_interpreter.proofs.Running.{run_none}
@@ -15,8 +15,7 @@ use Rattle.ps_step.proofs.procedures.run_entered.Goals as goal
 
 pub loop-end-init : goal.loop-end-init
 loop-end-init g c =
-    let start : Lent = above c.args.entered (lent (g.M.Memory.heap c.args.memory.now)
-    (g.M.Memory.grants c.args.memory.now) c.args.context.now c.args.shared.now) in
+    let start : Lent = above c.args.entered (lent_of g.M.Memory.heap g.M.Memory.grants c.args.context.now c.args.runtime.now) in
     let some : 1 ≤ c.args.entered.length = c.requires.good.frames.0.1 in
     let none : 0 ≡ c.args.most - c.args.most = omega arith in
     record {
@@ -35,8 +34,7 @@ loop-end-init g c =
 
 pub do_first-requires-clause-part : goal.do_first-requires-clause-part
 do_first-requires-clause-part g c =
-    let l : Lent = lent (g.M.Memory.heap c.loop-end.memory) (g.M.Memory.grants c.loop-end.memory)
-    c.loop-end.context c.loop-end.shared in
+    let l : Lent = lent_of g.M.Memory.heap g.M.Memory.grants c.loop-end.context c.loop-end.runtime in
     let known = c.loop-end.invariant in
     let some : 1 ≤ c.loop-end.rest.length = omega (arith, c.loop-end-test.true, known.part) in
     (subst (λ (frames : List Frame). IsGood (with_frames frames l))
@@ -44,10 +42,8 @@ do_first-requires-clause-part g c =
 
 pub loop-end-preserved-in_default : goal.loop-end-preserved-in_default
 loop-end-preserved-in_default g c =
-    let start : Lent = above c.args.entered (lent (g.M.Memory.heap c.args.memory.now)
-    (g.M.Memory.grants c.args.memory.now) c.args.context.now c.args.shared.now) in
-    let l : Lent = lent (g.M.Memory.heap c.loop-end.memory) (g.M.Memory.grants c.loop-end.memory)
-    c.loop-end.context c.loop-end.shared in
+    let start : Lent = above c.args.entered (lent_of g.M.Memory.heap g.M.Memory.grants c.args.context.now c.args.runtime.now) in
+    let l : Lent = lent_of g.M.Memory.heap g.M.Memory.grants c.loop-end.context c.loop-end.runtime in
     let known = c.loop-end.invariant in
     let rest = c.loop-end.rest in
     let end = c.loop-end.end in
@@ -68,10 +64,8 @@ loop-end-preserved-in_default g c =
 
 pub loop-end-preserved-else-rest-eq0 : goal.loop-end-preserved-else-rest-eq0
 loop-end-preserved-else-rest-eq0 g c =
-    let start : Lent = above c.args.entered (lent (g.M.Memory.heap c.args.memory.now)
-    (g.M.Memory.grants c.args.memory.now) c.args.context.now c.args.shared.now) in
-    let l : Lent = lent (g.M.Memory.heap c.loop-end.memory) (g.M.Memory.grants c.loop-end.memory)
-    c.loop-end.context c.loop-end.shared in
+    let start : Lent = above c.args.entered (lent_of g.M.Memory.heap g.M.Memory.grants c.args.context.now c.args.runtime.now) in
+    let l : Lent = lent_of g.M.Memory.heap g.M.Memory.grants c.loop-end.context c.loop-end.runtime in
     let known = c.loop-end.invariant in
     let rest = c.loop-end.rest in
     let end = c.loop-end.end in
@@ -92,10 +86,8 @@ loop-end-preserved-else-rest-eq0 g c =
 
 pub loop-end-preserved-in-Some : goal.loop-end-preserved-in-Some
 loop-end-preserved-in-Some g c =
-    let start : Lent = above c.args.entered (lent (g.M.Memory.heap c.args.memory.now)
-    (g.M.Memory.grants c.args.memory.now) c.args.context.now c.args.shared.now) in
-    let l : Lent = lent (g.M.Memory.heap c.loop-end.memory) (g.M.Memory.grants c.loop-end.memory)
-    c.loop-end.context c.loop-end.shared in
+    let start : Lent = above c.args.entered (lent_of g.M.Memory.heap g.M.Memory.grants c.args.context.now c.args.runtime.now) in
+    let l : Lent = lent_of g.M.Memory.heap g.M.Memory.grants c.loop-end.context c.loop-end.runtime in
     let now : Lent = record l { operands = c.do_first.new.operands } in
     let known = c.loop-end.invariant in
     let rest = c.loop-end.rest in
@@ -130,10 +122,8 @@ loop-end-preserved-in-Some g c =
 
 pub do_known-known-requires-clause-good : goal.do_known-known-requires-clause-good
 do_known-known-requires-clause-good g c =
-    let start : Lent = above c.args.entered (lent (g.M.Memory.heap c.args.memory.now)
-    (g.M.Memory.grants c.args.memory.now) c.args.context.now c.args.shared.now) in
-    let l : Lent = lent (g.M.Memory.heap c.loop-end.memory) (g.M.Memory.grants c.loop-end.memory)
-    c.loop-end.context c.loop-end.shared in
+    let start : Lent = above c.args.entered (lent_of g.M.Memory.heap g.M.Memory.grants c.args.context.now c.args.runtime.now) in
+    let l : Lent = lent_of g.M.Memory.heap g.M.Memory.grants c.loop-end.context c.loop-end.runtime in
     let known = c.loop-end.invariant in
     let behind = rw c.in-Treats.is at c.do_first.ensures.behind in
     let some : c.in-Treats.done < c.loop-end.rest.length = omega (arith, behind, known.part) in
@@ -145,16 +135,14 @@ do_known-known-requires-clause-good g c =
 pub do_known-known-requires-clause-first : goal.do_known-known-requires-clause-first
 do_known-known-requires-clause-first g c =
     rw (c.do_first.ensures.heap, c.left_of-behind.ensures)
-    (element_first g.O.Operate.asks (g.M.Memory.heap c.loop-end.memory)
+    (element_first g.O.Operate.asks (g.M.Memory.heap c.loop-end.runtime.memory)
     c.loop-end.context.dictionaries c.loop-end.rest c.in-Treats.done c.in-Treats.element
     (rw c.in-Treats.is at c.do_first.ensures.does).1)
 
 pub returns-then-is_some-clause-runs : goal.returns-then-is_some-clause-runs
 returns-then-is_some-clause-runs g c =
-    let start : Lent = above c.args.entered (lent (g.M.Memory.heap c.args.memory.now)
-    (g.M.Memory.grants c.args.memory.now) c.args.context.now c.args.shared.now) in
-    let l : Lent = lent (g.M.Memory.heap c.loop-end.memory) (g.M.Memory.grants c.loop-end.memory)
-    c.loop-end.context c.loop-end.shared in
+    let start : Lent = above c.args.entered (lent_of g.M.Memory.heap g.M.Memory.grants c.args.context.now c.args.runtime.now) in
+    let l : Lent = lent_of g.M.Memory.heap g.M.Memory.grants c.loop-end.context c.loop-end.runtime in
     let now : Lent = record l { operands = c.do_first.new.operands } in
     let known = c.loop-end.invariant in
     let behind = rw c.in-Treats.is at c.do_first.ensures.behind in
@@ -171,10 +159,8 @@ returns-then-is_some-clause-runs g c =
 
 pub pushed_turn-turn-requires-clause-good : goal.pushed_turn-turn-requires-clause-good
 pushed_turn-turn-requires-clause-good g c =
-    let start : Lent = above c.args.entered (lent (g.M.Memory.heap c.args.memory.now)
-    (g.M.Memory.grants c.args.memory.now) c.args.context.now c.args.shared.now) in
-    let l : Lent = lent (g.M.Memory.heap c.loop-end.memory) (g.M.Memory.grants c.loop-end.memory)
-    c.loop-end.context c.loop-end.shared in
+    let start : Lent = above c.args.entered (lent_of g.M.Memory.heap g.M.Memory.grants c.args.context.now c.args.runtime.now) in
+    let l : Lent = lent_of g.M.Memory.heap g.M.Memory.grants c.loop-end.context c.loop-end.runtime in
     let known = c.loop-end.invariant in
     let behind = rw c.in-Left.is at c.do_first.ensures.behind in
     let some : c.in-Left.done < c.loop-end.rest.length = omega (arith, behind, known.part) in
@@ -186,10 +172,8 @@ pushed_turn-turn-requires-clause-good g c =
 
 pub returns-in-Left-clause-runs : goal.returns-in-Left-clause-runs
 returns-in-Left-clause-runs g c =
-    let start : Lent = above c.args.entered (lent (g.M.Memory.heap c.args.memory.now)
-    (g.M.Memory.grants c.args.memory.now) c.args.context.now c.args.shared.now) in
-    let l : Lent = lent (g.M.Memory.heap c.loop-end.memory) (g.M.Memory.grants c.loop-end.memory)
-    c.loop-end.context c.loop-end.shared in
+    let start : Lent = above c.args.entered (lent_of g.M.Memory.heap g.M.Memory.grants c.args.context.now c.args.runtime.now) in
+    let l : Lent = lent_of g.M.Memory.heap g.M.Memory.grants c.loop-end.context c.loop-end.runtime in
     let now : Lent = record l { operands = c.do_first.new.operands } in
     let known = c.loop-end.invariant in
     let behind = rw c.in-Left.is at c.do_first.ensures.behind in
@@ -204,14 +188,10 @@ returns-in-Left-clause-runs g c =
 
 pub loop-end-preserved : goal.loop-end-preserved
 loop-end-preserved g c =
-    let start : Lent = above c.args.entered (lent (g.M.Memory.heap c.args.memory.now)
-    (g.M.Memory.grants c.args.memory.now) c.args.context.now c.args.shared.now) in
-    let l : Lent = lent (g.M.Memory.heap c.loop-end.memory) (g.M.Memory.grants c.loop-end.memory)
-    c.loop-end.context c.loop-end.shared in
+    let start : Lent = above c.args.entered (lent_of g.M.Memory.heap g.M.Memory.grants c.args.context.now c.args.runtime.now) in
+    let l : Lent = lent_of g.M.Memory.heap g.M.Memory.grants c.loop-end.context c.loop-end.runtime in
     let now : Lent = record l { operands = c.do_first.new.operands } in
-    let after : Lent = lent (g.M.Memory.heap c.do_known-known.new.memory)
-    (g.M.Memory.grants c.do_known-known.new.memory) c.do_known-known.new.context
-    c.do_known-known.new.shared in
+    let after : Lent = lent_of g.M.Memory.heap g.M.Memory.grants c.do_known-known.new.context c.do_known-known.new.runtime in
     let known = c.loop-end.invariant in
     let rest = c.loop-end.rest in
     let done = c.in-Treats.done in
@@ -245,10 +225,8 @@ loop-end-preserved g c =
 
 pub loop-end-preserved-in-Enters : goal.loop-end-preserved-in-Enters
 loop-end-preserved-in-Enters g c =
-    let start : Lent = above c.args.entered (lent (g.M.Memory.heap c.args.memory.now)
-    (g.M.Memory.grants c.args.memory.now) c.args.context.now c.args.shared.now) in
-    let l : Lent = lent (g.M.Memory.heap c.loop-end.memory) (g.M.Memory.grants c.loop-end.memory)
-    c.loop-end.context c.loop-end.shared in
+    let start : Lent = above c.args.entered (lent_of g.M.Memory.heap g.M.Memory.grants c.args.context.now c.args.runtime.now) in
+    let l : Lent = lent_of g.M.Memory.heap g.M.Memory.grants c.loop-end.context c.loop-end.runtime in
     let known = c.loop-end.invariant in
     let rest = c.loop-end.rest in
     let done = c.in-Enters.done in

@@ -1,5 +1,5 @@
 use Rattle.std.proofs.Common.{◌+◌, ◌-◌, ◌≤◌, length}
-use Rattle.ps_ops_state.specs.Lent.{lent}
+use Rattle.ps_ops_state.specs.Lent.{lent_of}
 use Rattle.ps_step_frames.specs.Steps.{above, frames_after, with_frames}
 use Rattle.ps_step_interpreter.specs.OwnSteps.{HasRun}
 use Rattle.ps_step.proofs.procedures.run_entered.Given as goal
@@ -14,10 +14,9 @@ invariant-loop-end g l = record {
   ahead : 1 ≤ l.end → 2 + length l.context.frames ≤ 250;
   some : 1 ≤ l.most → 1 ≤ (l.most - l.left) + l.end;
   makes : HasRun (l.most - l.left)
-      (above l.fn.entered (lent (g.M.Memory.heap l.fn.memory) (g.M.Memory.grants l.fn.memory)
-      l.fn.context l.fn.shared))
+      (above l.fn.entered (lent_of g.M.Memory.heap g.M.Memory.grants l.fn.context l.fn.runtime))
       (with_frames (frames_after 0 l.rest l.context.frames)
-      (lent (g.M.Memory.heap l.memory) (g.M.Memory.grants l.memory) l.context l.shared));
+      (lent_of g.M.Memory.heap g.M.Memory.grants l.context l.runtime));
 }
 
 abbrev pub decreases-loop-end : goal.decreases-loop-end

@@ -1,5 +1,5 @@
 use Rattle.std.proofs.Common.{◌-◌, ◌≤◌}
-use Rattle.ps_ops_state.specs.Lent.{lent}
+use Rattle.ps_ops_state.specs.Lent.{lent_of}
 use Rattle.ps_step_interpreter.specs.OwnSteps.{HasRun}
 use Rattle.ps_step.proofs.runs.run_ahead.Given as goal
 
@@ -8,8 +8,8 @@ abbrev pub invariant-loop-made : goal.invariant-loop-made
 invariant-loop-made g l = record {
   within : l.made ≤ l.most;
   makes : HasRun l.made
-      (lent (g.M.Memory.heap l.fn.memory) (g.M.Memory.grants l.fn.memory) l.fn.context l.fn.shared)
-      (lent (g.M.Memory.heap l.memory) (g.M.Memory.grants l.memory) l.context l.shared);
+      (lent_of g.M.Memory.heap g.M.Memory.grants l.fn.context l.fn.runtime)
+      (lent_of g.M.Memory.heap g.M.Memory.grants l.context l.runtime);
 }
 
 abbrev pub decreases-loop-made : goal.decreases-loop-made

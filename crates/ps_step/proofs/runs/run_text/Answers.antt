@@ -5,7 +5,7 @@ use Rattle.std.proofs.lemmas.Bool.Decides.{nat_tests}
 use Rattle.ps_ops_operands.proofs.Operands.{first_split}
 use Rattle.ps_ops_control.specs.declared.frames.Frame.{Frame}
 use Rattle.ps_ops_control.specs.declared.frames.Frame.TheVariants.{Text}
-use Rattle.ps_ops_state.specs.Lent.{Lent, lent}
+use Rattle.ps_ops_state.specs.Lent.{Lent, lent_of}
 use Rattle.ps_step_interpreter.specs.OwnSteps.{HasRun}
 use Rattle.ps_step_interpreter.proofs.Running.{run_none}
 use Rattle.ps_step.proofs.Reading.{read_more, read_behind}
@@ -13,8 +13,7 @@ use Rattle.ps_step.proofs.runs.run_text.Goals as goal
 
 pub loop-made-init : goal.loop-made-init
 loop-made-init g c =
-    let l : Lent = lent (g.M.Memory.heap c.args.memory.now) (g.M.Memory.grants c.args.memory.now)
-    c.args.context.now c.args.shared.now in
+    let l : Lent = lent_of g.M.Memory.heap g.M.Memory.grants c.args.context.now c.args.runtime.now in
     let top : l.frames ≡ Text c.args.source c.args.at ∷ drop 1 l.frames =
     first_split _ _ (sym c.requires.top) in
     rw (c.read_source.ensures.heap, c.read_source.ensures.grants) (record {
@@ -34,8 +33,7 @@ loop-made-preserved g c =
           c.loop-made.invariant.framed;
       window = rw c.in-Done.is at c.read_token.ensures.window;
       makes = read_more g.O.Operate.asks c.args.slot c.loop-made.made _
-          (lent (g.M.Memory.heap c.loop-made.memory) (g.M.Memory.grants c.loop-made.memory)
-          c.loop-made.context c.loop-made.shared) c.args.source c.loop-made.place
+          (lent_of g.M.Memory.heap g.M.Memory.grants c.loop-made.context c.loop-made.runtime) c.args.source c.loop-made.place
           c.loop-made.invariant.makes _ takes.1;
     }
 
@@ -46,8 +44,7 @@ returns-in-Turned g c = record {
   more = λ none. omega (arith, c.with_turn.ensures.more none);
   runs = c.with_turn.ensures.runs g.O.Operate.asks c.args.slot _ _
       (read_behind g.O.Operate.asks c.args.slot c.loop-made.made _
-      (lent (g.M.Memory.heap c.loop-made.memory) (g.M.Memory.grants c.loop-made.memory)
-      c.loop-made.context c.loop-made.shared) c.args.source c.loop-made.place
+      (lent_of g.M.Memory.heap g.M.Memory.grants c.loop-made.context c.loop-made.runtime) c.args.source c.loop-made.place
       c.loop-made.invariant.makes _ _ (rw c.in-Turned.is at c.read_token.ensures.takes)) refl;
 }
 

@@ -1,5 +1,5 @@
 use Rattle.std.proofs.Common.{◌-◌, ◌≤◌, length}
-use Rattle.ps_ops_state.specs.Lent.{lent}
+use Rattle.ps_ops_state.specs.Lent.{lent_of}
 use Rattle.ps_step_interpreter.specs.OwnSteps.{HasRun}
 use Rattle.ps_step.specs.Reading.{read_to}
 use Rattle.ps_step.specs.Windows.{IsWindow}
@@ -10,11 +10,10 @@ abbrev pub invariant-loop-made : goal.invariant-loop-made
 invariant-loop-made g l = record {
   within : l.made ≤ l.most;
   framed : 1 ≤ length l.context.frames;
-  window : IsWindow (g.M.Memory.heap l.memory) l.source l.start l.text.items;
+  window : IsWindow (g.M.Memory.heap l.runtime.memory) l.source l.start l.text.items;
   makes : HasRun l.made
-      (lent (g.M.Memory.heap l.fn.memory) (g.M.Memory.grants l.fn.memory) l.fn.context l.fn.shared)
-      (read_to l.source l.place (lent (g.M.Memory.heap l.memory) (g.M.Memory.grants l.memory)
-      l.context l.shared));
+      (lent_of g.M.Memory.heap g.M.Memory.grants l.fn.context l.fn.runtime)
+      (read_to l.source l.place (lent_of g.M.Memory.heap g.M.Memory.grants l.context l.runtime));
 }
 
 abbrev pub decreases-loop-made : goal.decreases-loop-made

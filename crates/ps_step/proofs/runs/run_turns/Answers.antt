@@ -1,14 +1,13 @@
 -- The tokens of a text, or the turn of another frame.
 use Rattle.std.proofs.Common.{arith, refl}
-use Rattle.ps_ops_state.specs.Lent.{Lent, lent}
+use Rattle.ps_ops_state.specs.Lent.{Lent, lent_of}
 use Rattle.ps_step_interpreter.proofs.Running.{run_none}
 use Rattle.ps_step.proofs.Ahead.{turned_behind}
 use Rattle.ps_step.proofs.runs.run_turns.Goals as goal
 
 pub returns-in_default-top : goal.returns-in_default-top
 returns-in_default-top g c =
-    let l : Lent = lent (g.M.Memory.heap c.args.memory.now) (g.M.Memory.grants c.args.memory.now)
-    c.args.context.now c.args.shared.now in
+    let l : Lent = lent_of g.M.Memory.heap g.M.Memory.grants c.args.context.now c.args.runtime.now in
     record {
       within = c.with_turn.ensures.within;
       fewer = λ some. omega (arith, c.requires.some, c.with_turn.ensures.behind some);

@@ -8,7 +8,7 @@ use Rattle.ps_ops_operands.specs.declared.failure.NotMade.TheVariants.{Memory}
 use Rattle.ps_mem.specs.Heap.{birth_at}
 use Rattle.ps_ops_control.specs.declared.frames.Frame.TheVariants.{Text}
 use Rattle.ps_ops_control.specs.Frames.{source_of}
-use Rattle.ps_ops_state.specs.Lent.{Lent, lent}
+use Rattle.ps_ops_state.specs.Lent.{Lent, lent_of}
 use Rattle.ps_step_frames.specs.Steps.{running_turn}
 use Rattle.ps_step_tokens.proofs.Alike.{raised, unmade}
 use Rattle.ps_step.specs.Texts.{text_asks}
@@ -23,12 +23,11 @@ raise-requires-in-Limit-clause-held g c = plain_value _ _ c.null-in-Limit.ensure
 
 pub returns-in-Syntax : goal.returns-in-Syntax
 returns-in-Syntax g c =
-    let l : Lent = lent (g.M.Memory.heap c.args.memory.now) (g.M.Memory.grants c.args.memory.now)
-    c.args.context.now c.args.shared.now in
+    let l : Lent = lent_of g.M.Memory.heap g.M.Memory.grants c.args.context.now c.args.runtime.now in
     let top : l.frames ≡ Text c.args.source c.args.at ∷ drop 1 l.frames =
     first_split _ _ (sym c.requires.top) in
     raised (text_asks g.O.Operate.asks c.args.source c.args.at (drop 1 l.frames)) running_turn
-    c.args.trial c.raise.result l _ c.null.result
+    c.args.attempt c.raise.result l _ c.null.result
     (λ s shown. plain_within _ _ s _ c.null.ensures.plain) SyntaxError
     (λ s shown. fault_is l c.args.source c.args.at (drop 1 l.frames) top syntax_fault c.null.result
     (c.null.ensures.value _ _) s
@@ -36,12 +35,11 @@ returns-in-Syntax g c =
 
 pub returns-in-Limit : goal.returns-in-Limit
 returns-in-Limit g c =
-    let l : Lent = lent (g.M.Memory.heap c.args.memory.now) (g.M.Memory.grants c.args.memory.now)
-    c.args.context.now c.args.shared.now in
+    let l : Lent = lent_of g.M.Memory.heap g.M.Memory.grants c.args.context.now c.args.runtime.now in
     let top : l.frames ≡ Text c.args.source c.args.at ∷ drop 1 l.frames =
     first_split _ _ (sym c.requires.top) in
     raised (text_asks g.O.Operate.asks c.args.source c.args.at (drop 1 l.frames)) running_turn
-    c.args.trial c.raise-in-Limit.result l _ c.null-in-Limit.result
+    c.args.attempt c.raise-in-Limit.result l _ c.null-in-Limit.result
     (λ s shown. plain_within _ _ s _ c.null-in-Limit.ensures.plain) LimitCheck
     (λ s shown. fault_is l c.args.source c.args.at (drop 1 l.frames) top limit_fault
     c.null-in-Limit.result (c.null-in-Limit.ensures.value _ _) s
@@ -49,10 +47,9 @@ returns-in-Limit g c =
 
 pub returns-in-Memory : goal.returns-in-Memory
 returns-in-Memory g c =
-    let l : Lent = lent (g.M.Memory.heap c.args.memory.now) (g.M.Memory.grants c.args.memory.now)
-    c.args.context.now c.args.shared.now in
+    let l : Lent = lent_of g.M.Memory.heap g.M.Memory.grants c.args.context.now c.args.runtime.now in
     let asks = text_asks g.O.Operate.asks c.args.source c.args.at (drop 1 l.frames) in
-    unmade asks running_turn c.args.trial l c.requires.good Memory
-    (λ s shown. list_reason c.args.trial asks running_turn l l s
+    unmade asks running_turn c.args.attempt l c.requires.good Memory
+    (λ s shown. list_reason c.args.attempt asks running_turn l l s
     (source_lacks l _ (source_of (birth_at l.heap) c.args.source) _
     (rw c.in-Memory.is at (c.requires.fault s shown))))

@@ -10,7 +10,7 @@ take_scanned-requires-clause-scanned g c =
       c.scanned_bytes-text.ensures,
     )
     (λ s shown.
-    c.scan_source-scanned.ensures.scanned c.args.shared.now.names s shown.shows shown.frames.0)
+    c.scan_source-scanned.ensures.scanned c.args.runtime.now.shared.names s shown.shows shown.frames.0)
 
 pub take_scanned-requires-clause-token : goal.take_scanned-requires-clause-token
 take_scanned-requires-clause-token g c =

@@ -3,14 +3,13 @@ use Rattle.std.proofs.Common.{◌≡◌, ◌∷◌, drop, sym, subst}
 use Rattle.ps_ops_operands.proofs.Operands.{first_split}
 use Rattle.ps_ops_control.specs.declared.frames.Frame.TheVariants.{Text}
 use Rattle.ps_ops_control.specs.Frames.{AreFramesWithin}
-use Rattle.ps_ops_state.specs.Lent.{Lent, lent}
+use Rattle.ps_ops_state.specs.Lent.{Lent, lent_of}
 use Rattle.ps_step.proofs.Rereading.{no_window}
 use Rattle.ps_step.proofs.texts.text_turn.Goals as goal
 
 pub scanned_turn-requires-clause-scanned : goal.scanned_turn-requires-clause-scanned
 scanned_turn-requires-clause-scanned g c =
-    let l : Lent = lent (g.M.Memory.heap c.args.memory.now) (g.M.Memory.grants c.args.memory.now)
-    c.args.context.now c.args.shared.now in
+    let l : Lent = lent_of g.M.Memory.heap g.M.Memory.grants c.args.context.now c.args.runtime.now in
     let top : l.frames ≡ Text c.args.source c.args.at ∷ drop 1 l.frames =
     first_split _ _ (sym c.requires.top) in
     rw (
@@ -29,5 +28,5 @@ scanned_turn-requires-clause-token g c =
 
 pub scan_source-scanned-requires-clause-window : goal.scan_source-scanned-requires-clause-window
 scan_source-scanned-requires-clause-window g c =
-    no_window (g.M.Memory.heap c.args.memory.now) c.args.source c.clear.new.self.items
+    no_window (g.M.Memory.heap c.args.runtime.now.memory) c.args.source c.clear.new.self.items
     c.clear.ensures.items

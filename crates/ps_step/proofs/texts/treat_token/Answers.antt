@@ -2,17 +2,16 @@
 use Rattle.std.proofs.Common.{◌∷◌, List, drop, ap, ◌∙◌, Ok, Err}
 use Rattle.ps_ops_control.specs.declared.frames.Frame.{Frame}
 use Rattle.ps_ops_control.specs.declared.frames.Frame.TheVariants.{Text}
-use Rattle.ps_ops_state.specs.Lent.{Lent, lent}
+use Rattle.ps_ops_state.specs.Lent.{Lent, lent_of}
 use Rattle.ps_step.proofs.Reading.{over_good, text_goes, text_unmade, token_treated}
 use Rattle.ps_step.proofs.texts.treat_token.Goals as goal
 
 pub treat-requires-clause-good : goal.treat-requires-clause-good
 treat-requires-clause-good g c =
-    let l : Lent = lent (g.M.Memory.heap c.args.memory.now) (g.M.Memory.grants c.args.memory.now)
-    c.args.context.now c.args.shared.now in
+    let l : Lent = lent_of g.M.Memory.heap g.M.Memory.grants c.args.context.now c.args.runtime.now in
     let read = c.requires.read in
     rw c.replace_top.ensures
-    (over_good g.O.Operate.asks c.args.source.now c.args.at l c.requires.good c.args.trial
+    (over_good g.O.Operate.asks c.args.source.now c.args.at l c.requires.good c.args.attempt
     read.token
     c.args.end read.further read.scanned)
 
@@ -24,27 +23,25 @@ treat-requires-clause-command g c = c.requires.read.is.held _
 
 pub returns-in-Ok : goal.returns-in-Ok
 returns-in-Ok g c =
-    let l : Lent = lent (g.M.Memory.heap c.args.memory.now) (g.M.Memory.grants c.args.memory.now)
-    c.args.context.now c.args.shared.now in
+    let l : Lent = lent_of g.M.Memory.heap g.M.Memory.grants c.args.context.now c.args.runtime.now in
     let read = c.requires.read in
-    text_goes g.O.Operate.asks c.args.source.now c.args.at l c.requires.good c.args.trial
+    text_goes g.O.Operate.asks c.args.source.now c.args.at l c.requires.good c.args.attempt
     read.token
     c.args.end read.further read.scanned c.in-Ok.turned _
-    (token_treated g.O.Operate.asks c.args.source.now c.args.at l c.requires.good c.args.trial
+    (token_treated g.O.Operate.asks c.args.source.now c.args.at l c.requires.good c.args.attempt
     read.token c.args.end read.further read.scanned c.args.word c.args.value read.is read.treats
     (Ok c.in-Ok.turned) _ (rw (c.replace_top.ensures, c.in-Ok.is) at c.treat.ensures))
 
 pub returns-in-Err : goal.returns-in-Err
 returns-in-Err g c =
-    let l : Lent = lent (g.M.Memory.heap c.args.memory.now) (g.M.Memory.grants c.args.memory.now)
-    c.args.context.now c.args.shared.now in
+    let l : Lent = lent_of g.M.Memory.heap g.M.Memory.grants c.args.context.now c.args.runtime.now in
     let read = c.requires.read in
     let turns = rw (c.replace_top.ensures, c.in-Err.is) at c.treat.ensures in
     rw (c.replace_top-in-Err.ensures
     ∙ ap (λ (fs : List Frame). Text c.args.source.now c.args.at ∷ drop 1 fs) turns.framed)
-    (text_unmade g.O.Operate.asks c.args.source.now c.args.at l c.requires.good c.args.trial
+    (text_unmade g.O.Operate.asks c.args.source.now c.args.at l c.requires.good c.args.attempt
     read.token
     c.args.end read.further read.scanned c.in-Err.reason _
-    (token_treated g.O.Operate.asks c.args.source.now c.args.at l c.requires.good c.args.trial
+    (token_treated g.O.Operate.asks c.args.source.now c.args.at l c.requires.good c.args.attempt
     read.token c.args.end read.further read.scanned c.args.word c.args.value read.is read.treats
     (Err c.in-Err.reason) _ turns))

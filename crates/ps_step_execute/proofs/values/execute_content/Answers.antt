@@ -14,30 +14,30 @@ scan_string-requires-clause-part g c =
 
 pub returns-in-Name : goal.returns-in-Name
 returns-in-Name g c =
-    name_waits g.O.Operate.asks c.args.command c.args.word _ c.args.trial _ _ _
+    name_waits g.O.Operate.asks c.args.command c.args.word _ c.args.attempt _ _ _
     (sym c.requires.content ∙ c.in-Name.is) c.push_frame.ensures
 
 pub returns-in-Operator : goal.returns-in-Operator
 returns-in-Operator g c =
-    operator_acts g.O.Operate.asks c.args.command c.args.word _ c.args.trial _ _ _
+    operator_acts g.O.Operate.asks c.args.command c.args.word _ c.args.attempt _ _ _
     (sym c.requires.content ∙ c.in-Operator.is) c.operate.ensures
 
 pub returns-in-Null : goal.returns-in-Null
 returns-in-Null g c =
-    idle_goes g.O.Operate.asks c.args.command c.args.word _ c.args.trial c.args.content
+    idle_goes g.O.Operate.asks c.args.command c.args.word _ c.args.attempt c.args.content
     c.requires.content c.requires.good c.in-Null.is
 
 pub returns-in-Array : goal.returns-in-Array
 returns-in-Array g c =
-    array_entered g.O.Operate.asks c.args.command c.args.word _ c.args.trial _ _ _
+    array_entered g.O.Operate.asks c.args.command c.args.word _ c.args.attempt _ _ _
     (sym c.requires.content ∙ c.in-Array.is) c.enter.ensures
 
 pub returns-in-Text : goal.returns-in-Text
 returns-in-Text g c =
-    text_scanned g.O.Operate.asks c.args.command c.args.word _ c.args.trial _ _ _
+    text_scanned g.O.Operate.asks c.args.command c.args.word _ c.args.attempt _ _ _
     (sym c.requires.content ∙ c.in-Text.is) c.scan_string.ensures
 
 pub returns-in-Integer : goal.returns-in-Integer
 returns-in-Integer g c =
-    datum_pushed g.O.Operate.asks c.args.command c.args.word _ c.args.trial c.args.content
+    datum_pushed g.O.Operate.asks c.args.command c.args.word _ c.args.attempt c.args.content
     c.requires.content _ _ c.in-Integer.is c.push_value.ensures

@@ -1,7 +1,7 @@
 -- The errors in their order, and the elements that are stored.
 use Rattle.std.proofs.Common.{arith, length, sym, ap, ◌∙◌}
 use Rattle.ps_ops_operands.proofs.Operands.{first_split}
-use Rattle.ps_ops_state.specs.Lent.{Lent, lent}
+use Rattle.ps_ops_state.specs.Lent.{Lent, lent_of}
 use Rattle.ps_step_frames.proofs.Rooming.{roomy_good}
 use Rattle.ps_step_frames.proofs.Rewriting.{limits_ok}
 use Rattle.ps_step_frames.proofs.Stepping.{bind_lacks, bind_raises, bind_unlogged, bind_stored}
@@ -9,14 +9,13 @@ use Rattle.ps_step_frames.proofs.bindings.bind_turn.Goals as goal
 
 pub returns-in-Err : goal.returns-in-Err
 returns-in-Err g c =
-    let l : Lent = lent (g.M.Memory.heap c.args.memory.now) (g.M.Memory.grants c.args.memory.now)
-    c.args.context.now c.args.shared.now in
+    let l : Lent = lent_of g.M.Memory.heap g.M.Memory.grants c.args.context.now c.args.runtime.now in
     let none = ap length c.requires.good.empty.words in
     let few = c.in-Err.ensures.full in
     let same = c.in-Err.ensures.err in
     bind_lacks l c.requires.good c.args.over c.args.at c.args.depth
-    (first_split _ _ (sym c.requires.top)) c.args.trial
-    (record c.args.shared.now.scratch { words = c.reserve.new.self })
+    (first_split _ _ (sym c.requires.top)) c.args.attempt
+    (record c.args.runtime.now.shared.scratch { words = c.reserve.new.self })
     (record {
       text = c.requires.good.empty.text;
       sought = c.requires.good.empty.sought;
@@ -27,8 +26,7 @@ returns-in-Err g c =
 
 pub returns-in-Err-stored : goal.returns-in-Err-stored
 returns-in-Err-stored g c =
-    let l : Lent = lent (g.M.Memory.heap c.args.memory.now) (g.M.Memory.grants c.args.memory.now)
-    c.args.context.now c.args.shared.now in
+    let l : Lent = lent_of g.M.Memory.heap g.M.Memory.grants c.args.context.now c.args.runtime.now in
     let found = limits_ok c.bind_elements-bound.result
     c.in-Ok-within_limits.bindings c.args.depth (length c.args.context.now.frames) (sym c.within_limits.ensures
     ∙ c.in-Ok-within_limits.is) in
@@ -37,7 +35,7 @@ returns-in-Err-stored g c =
     let left = c.clear.ensures.capacity in
     rw (c.in-Err-stored.ensures.unmade ∙ c.bind_elements-bound.ensures.heap)
     (bind_unlogged l c.requires.good c.args.over c.args.at c.args.depth
-    (first_split _ _ (sym c.requires.top)) c.args.trial (record c.args.shared.now.scratch { words = c.clear.new.self })
+    (first_split _ _ (sym c.requires.top)) c.args.attempt (record c.args.runtime.now.shared.scratch { words = c.clear.new.self })
     (record {
       text = c.requires.good.empty.text;
       sought = c.requires.good.empty.sought;
@@ -55,13 +53,12 @@ returns-in-Err-stored g c =
 pub raise_by-requires : goal.raise_by-requires
 raise_by-requires g c = record {
   good =
-      let l : Lent = lent (g.M.Memory.heap c.args.memory.now) (g.M.Memory.grants c.args.memory.now)
-      c.args.context.now c.args.shared.now in
+      let l : Lent = lent_of g.M.Memory.heap g.M.Memory.grants c.args.context.now c.args.runtime.now in
       let room = c.reserve.ensures.capacity in
       let kept = c.bind_elements-bound.ensures.capacity in
       let left = c.clear-in-Err-within_limits.ensures.capacity in
       rw (c.bind_elements-bound.ensures.heap, c.bind_elements-bound.ensures.grants)
-      (roomy_good l (record c.args.shared.now.scratch { words = c.clear-in-Err-within_limits.new.self })
+      (roomy_good l (record c.args.runtime.now.shared.scratch { words = c.clear-in-Err-within_limits.new.self })
       (record {
         text = c.requires.good.empty.text;
         sought = c.requires.good.empty.sought;
@@ -73,8 +70,7 @@ raise_by-requires g c = record {
 
 pub returns-in-Ok-stored : goal.returns-in-Ok-stored
 returns-in-Ok-stored g c =
-    let l : Lent = lent (g.M.Memory.heap c.args.memory.now) (g.M.Memory.grants c.args.memory.now)
-    c.args.context.now c.args.shared.now in
+    let l : Lent = lent_of g.M.Memory.heap g.M.Memory.grants c.args.context.now c.args.runtime.now in
     let found = limits_ok c.bind_elements-bound.result
     c.in-Ok-within_limits.bindings c.args.depth (length c.args.context.now.frames) (sym c.within_limits.ensures
     ∙ c.in-Ok-within_limits.is) in
@@ -87,7 +83,7 @@ returns-in-Ok-stored g c =
           ∙ ap length c.as_slice.ensures.value),
     )
     (bind_stored l c.requires.good c.args.over c.args.at c.args.depth
-    (first_split _ _ (sym c.requires.top)) c.args.trial (record c.args.shared.now.scratch { words = c.clear.new.self })
+    (first_split _ _ (sym c.requires.top)) c.args.attempt (record c.args.runtime.now.shared.scratch { words = c.clear.new.self })
     (record {
       text = c.requires.good.empty.text;
       sought = c.requires.good.empty.sought;
@@ -107,14 +103,13 @@ returns-in-Ok-stored g c =
 
 pub returns-in-Err-within_limits : goal.returns-in-Err-within_limits
 returns-in-Err-within_limits g c =
-    let l : Lent = lent (g.M.Memory.heap c.args.memory.now) (g.M.Memory.grants c.args.memory.now)
-    c.args.context.now c.args.shared.now in
+    let l : Lent = lent_of g.M.Memory.heap g.M.Memory.grants c.args.context.now c.args.runtime.now in
     let room = c.reserve.ensures.capacity in
     let kept = c.bind_elements-bound.ensures.capacity in
     let left = c.clear-in-Err-within_limits.ensures.capacity in
     bind_raises l c.requires.good c.args.over c.args.at c.args.depth
-    (first_split _ _ (sym c.requires.top)) c.args.trial
-    (record c.args.shared.now.scratch { words = c.clear-in-Err-within_limits.new.self })
+    (first_split _ _ (sym c.requires.top)) c.args.attempt
+    (record c.args.runtime.now.shared.scratch { words = c.clear-in-Err-within_limits.new.self })
     (record {
       text = c.requires.good.empty.text;
       sought = c.requires.good.empty.sought;

@@ -1,6 +1,6 @@
 -- The value is treated over the frames that are left, which are put back where it is not made.
 use Rattle.std.proofs.Common.{Ok, Err}
-use Rattle.ps_ops_state.specs.Lent.{Lent, lent, IsGood}
+use Rattle.ps_ops_state.specs.Lent.{Lent, IsGood, lent_of}
 use Rattle.ps_step_outcome.proofs.Composing.{restacked_good}
 use Rattle.ps_step_execute.proofs.Alone.{treated_done}
 use Rattle.ps_step_frames.specs.Steps.{above, rest_frames, with_frames}
@@ -10,16 +10,14 @@ use Rattle.ps_step_frames.proofs.elements.element_turn.Goals as goal
 
 pub treat_apart-requires-clause-good : goal.treat_apart-requires-clause-good
 treat_apart-requires-clause-good g c =
-    let l : Lent = lent (g.M.Memory.heap c.args.memory.now) (g.M.Memory.grants c.args.memory.now)
-    c.args.context.now c.args.shared.now in
+    let l : Lent = lent_of g.M.Memory.heap g.M.Memory.grants c.args.context.now c.args.runtime.now in
     rw c.push_rest.ensures.frames
     (restacked_good (above c.args.rest l) l.operands (rest_frames c.args.rest l.frames)
     (rest_good (above c.args.rest l) c.args.rest l.frames refl c.requires.good) c.requires.good)
 
 pub returns-in-Ok : goal.returns-in-Ok
 returns-in-Ok g c =
-    let l : Lent = lent (g.M.Memory.heap c.args.memory.now) (g.M.Memory.grants c.args.memory.now)
-    c.args.context.now c.args.shared.now in
+    let l : Lent = lent_of g.M.Memory.heap g.M.Memory.grants c.args.context.now c.args.runtime.now in
     let left : Lent = with_frames (rest_frames c.args.rest l.frames) l in
     let good : IsGood left = restacked_good (above c.args.rest l) l.operands
     (rest_frames c.args.rest l.frames)
@@ -28,15 +26,14 @@ returns-in-Ok g c =
     element_made (above c.args.rest l) c.args.rest l.frames refl c.args.element.word
     (λ s shown. is.reads l.names s shown.shows)
     c.requires.good (λ s shown. is.within l.names s shown.shows)
-    g.O.Operate.asks c.args.trial c.in-Ok.turned _
+    g.O.Operate.asks c.args.attempt c.in-Ok.turned _
     (treated_done g.O.Operate.asks l.heap l.dictionaries c.args.element.word c.args.element.value
-    is.treats left c.args.trial (Ok c.in-Ok.turned) _ good
+    is.treats left c.args.attempt (Ok c.in-Ok.turned) _ good
     (rw (c.push_rest.ensures.frames, c.in-Ok.is) at c.treat_apart.ensures))
 
 pub returns-in-Err : goal.returns-in-Err
 returns-in-Err g c =
-    let l : Lent = lent (g.M.Memory.heap c.args.memory.now) (g.M.Memory.grants c.args.memory.now)
-    c.args.context.now c.args.shared.now in
+    let l : Lent = lent_of g.M.Memory.heap g.M.Memory.grants c.args.context.now c.args.runtime.now in
     let left : Lent = with_frames (rest_frames c.args.rest l.frames) l in
     let good : IsGood left = restacked_good (above c.args.rest l) l.operands
     (rest_frames c.args.rest l.frames)
@@ -46,6 +43,6 @@ returns-in-Err g c =
     rw (c.put_back.ensures l.frames turns.framed)
     (element_unmade (above c.args.rest l) c.args.rest l.frames refl c.args.element.word
     (λ s shown. is.reads l.names s shown.shows) c.requires.good
-    (λ s shown. is.within l.names s shown.shows) g.O.Operate.asks c.args.trial c.in-Err.reason _
+    (λ s shown. is.within l.names s shown.shows) g.O.Operate.asks c.args.attempt c.in-Err.reason _
     (treated_done g.O.Operate.asks l.heap l.dictionaries c.args.element.word c.args.element.value
-    is.treats left c.args.trial (Err c.in-Err.reason) _ good turns))
+    is.treats left c.args.attempt (Err c.in-Err.reason) _ good turns))

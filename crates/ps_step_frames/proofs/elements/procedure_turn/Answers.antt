@@ -2,7 +2,7 @@
 use Rattle.std.proofs.Common.{◌≡◌, ◌∷◌, drop, sym, ◌∙◌}
 use Rattle.ps_ops_operands.proofs.Operands.{first_split}
 use Rattle.ps_ops_control.specs.declared.frames.Frame.TheVariants.{Procedure}
-use Rattle.ps_ops_state.specs.Lent.{Lent, lent}
+use Rattle.ps_ops_state.specs.Lent.{Lent, lent_of}
 use Rattle.ps_step_outcome.proofs.Composing.{restacked_good}
 use Rattle.ps_step_frames.specs.Steps.{rest_frames}
 use Rattle.ps_step_frames.proofs.Taking.{rest_good, element_made, element_unmade}
@@ -10,8 +10,7 @@ use Rattle.ps_step_frames.proofs.elements.procedure_turn.Goals as goal
 
 pub do_element-requires-clause-good : goal.do_element-requires-clause-good
 do_element-requires-clause-good g c =
-    let l : Lent = lent (g.M.Memory.heap c.args.memory.now) (g.M.Memory.grants c.args.memory.now)
-    c.args.context.now c.args.shared.now in
+    let l : Lent = lent_of g.M.Memory.heap g.M.Memory.grants c.args.context.now c.args.runtime.now in
     let top : l.frames ≡ Procedure c.args.rest ∷ drop 1 l.frames =
     first_split _ _ (sym c.requires.top) in
     rw (c.element-word.ensures.heap, c.element-word.ensures.grants, c.advance.ensures.frames)
@@ -20,12 +19,11 @@ do_element-requires-clause-good g c =
 
 pub returns-in-Ok : goal.returns-in-Ok
 returns-in-Ok g c =
-    let l : Lent = lent (g.M.Memory.heap c.args.memory.now) (g.M.Memory.grants c.args.memory.now)
-    c.args.context.now c.args.shared.now in
+    let l : Lent = lent_of g.M.Memory.heap g.M.Memory.grants c.args.context.now c.args.runtime.now in
     element_made l c.args.rest (drop 1 l.frames) (first_split _ _ (sym c.requires.top))
     c.element-word.result (λ s shown. c.element-word.ensures.value l.names s shown.shows)
     c.requires.good (λ s shown. c.element-word.ensures.within l.names s shown.shows)
-    g.O.Operate.asks c.args.trial c.in-Ok.turned _
+    g.O.Operate.asks c.args.attempt c.in-Ok.turned _
     (rw (
       c.element-word.ensures.heap,
       c.element-word.ensures.grants,
@@ -35,8 +33,7 @@ returns-in-Ok g c =
 
 pub returns-in-Err : goal.returns-in-Err
 returns-in-Err g c =
-    let l : Lent = lent (g.M.Memory.heap c.args.memory.now) (g.M.Memory.grants c.args.memory.now)
-    c.args.context.now c.args.shared.now in
+    let l : Lent = lent_of g.M.Memory.heap g.M.Memory.grants c.args.context.now c.args.runtime.now in
     let top : l.frames ≡ Procedure c.args.rest ∷ drop 1 l.frames =
     first_split _ _ (sym c.requires.top) in
     let turns = rw (
@@ -48,5 +45,5 @@ returns-in-Err g c =
     rw (c.put_back.ensures (drop 1 l.frames) turns.framed ∙ sym top)
     (element_unmade l c.args.rest (drop 1 l.frames) top c.element-word.result
     (λ s shown. c.element-word.ensures.value l.names s shown.shows) c.requires.good
-    (λ s shown. c.element-word.ensures.within l.names s shown.shows) g.O.Operate.asks c.args.trial
+    (λ s shown. c.element-word.ensures.within l.names s shown.shows) g.O.Operate.asks c.args.attempt
     c.in-Err.reason _ turns)

@@ -14,7 +14,7 @@ settle-requires g c = record {
 
 pub returns : goal.returns
 returns g c =
-    settles _ c.requires.good c.args.trial TheOperator _ _ _
+    settles _ c.requires.good c.args.attempt TheOperator _ _ _
     (c.repeat_turn-outcome.ensures.turns _ _ (ready c.requires.good)) _ _
     c.repeat_turn-outcome.ensures.operands c.repeat_turn-outcome.ensures.frames
     c.settle.ensures.goes c.settle.ensures.turns

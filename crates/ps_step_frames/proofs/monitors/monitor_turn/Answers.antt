@@ -13,7 +13,7 @@ returns-in-Err g c =
     c.args.context.now c.args.shared.now in
     rw c.permit_records.ensures.heap
     (monitor_unmade l c.requires.good c.args.lock (first_split _ _ (sym c.requires.top))
-    c.args.trial _ (logs_asked c.args.trial.slot _ _ c.permit_records.ensures.kept
+    c.args.attempt _ (logs_asked c.args.attempt.slot _ _ c.permit_records.ensures.kept
     c.permit_records.ensures.others c.permit_records.ensures.more) c.in-Err.reason
     c.in-Err.ensures.reason)
 
@@ -23,7 +23,7 @@ free_lock-requires-clause-known g c =
     c.args.context.now c.args.shared.now in
     rw c.permit_records.ensures.heap
     (monitor_held l c.requires.good c.args.lock (first_split _ _ (sym c.requires.top))
-    c.args.trial)
+    c.args.attempt)
 
 pub returns : goal.returns
 returns g c =
@@ -31,8 +31,8 @@ returns g c =
     c.args.context.now c.args.shared.now in
     rw c.drop_top.ensures.frames
     (monitor_goes l c.requires.good c.args.lock (first_split _ _ (sym c.requires.top))
-    c.args.trial _ _ (rw c.permit_records.ensures.heap at c.free_lock.ensures.keeps)
+    c.args.attempt _ _ (rw c.permit_records.ensures.heap at c.free_lock.ensures.keeps)
     c.free_lock.ensures.sound
-    (logs_changed c.args.trial.slot _ _ c.permit_records.ensures.kept c.permit_records.ensures.others
+    (logs_changed c.args.attempt.slot _ _ c.permit_records.ensures.kept c.permit_records.ensures.others
     c.permit_records.ensures.more _ 1 (store-used _ _ _ c.free_lock.ensures.grants))
     (rw c.permit_records.ensures.heap at c.free_lock.ensures.shows))

@@ -15,7 +15,7 @@ use Rattle.ps_dict.proofs.Granted.{store-used, then-used}
 use Rattle.ps_dict.proofs.Probing.{few-places}
 use Rattle.ps_dict.proofs.Shapes.{count-fits, count-shown, capacity-shown}
 use Rattle.ps_ops_control.specs.declared.frames.Cause.TheVariants.{Stop}
-use Rattle.ps_ops_state.specs.Lent.{Lent, lent}
+use Rattle.ps_ops_state.specs.Lent.{Lent, lent_of}
 use Rattle.ps_step_outcome.proofs.Noting.{named_held, named_within, named_met, newerror_first, logs_asked, logs_changed}
 use Rattle.ps_step_outcome.proofs.Told.{holds_told}
 use Rattle.ps_step_frames.proofs.Releasing.{release_unmade}
@@ -24,21 +24,19 @@ use Rattle.ps_step_frames.proofs.releases.tell.Goals as goal
 
 pub returns-in-Err : goal.returns-in-Err
 returns-in-Err g c =
-    let l : Lent = lent (g.M.Memory.heap c.args.memory.now) (g.M.Memory.grants c.args.memory.now)
-    c.args.context.now c.args.shared.now in
+    let l : Lent = lent_of g.M.Memory.heap g.M.Memory.grants c.args.context.now c.args.runtime.now in
     let permit = c.permit_records.ensures in
     rw permit.heap
-    (release_unmade l c.requires.good c.args.lock c.requires.known c.args.trial Stop true
-    (λ s shown. is_told_here l c.requires.good c.args.lock c.requires.known c.args.trial
+    (release_unmade l c.requires.good c.args.lock c.requires.known c.args.attempt Stop true
+    (λ s shown. is_told_here l c.requires.good c.args.lock c.requires.known c.args.attempt
     c.requires.last (λ t held. c.requires.new l.names t c.requires.good.first
     c.requires.good.names held.shows) s shown)
-    _ (logs_asked c.args.trial.slot _ _ permit.kept permit.others permit.more)
+    _ (logs_asked c.args.attempt.slot _ _ permit.kept permit.others permit.more)
     c.in-Err.reason 2 (omega arith) refl c.in-Err.ensures.reason)
 
 pub returns-in-Err-print_line : goal.returns-in-Err-print_line
 returns-in-Err-print_line g c =
-    let l : Lent = lent (g.M.Memory.heap c.args.memory.now) (g.M.Memory.grants c.args.memory.now)
-    c.args.context.now c.args.shared.now in
+    let l : Lent = lent_of g.M.Memory.heap g.M.Memory.grants c.args.context.now c.args.runtime.now in
     let permit = c.permit_records.ensures in
     let line = rw permit.heap at c.in-Err-print_line.ensures.prints in
     let more = rw c.in-Err-print_line.ensures.err
@@ -49,17 +47,17 @@ returns-in-Err-print_line g c =
       c.in-Err-print_line.ensures.bounded.most,
       c.in-Err-print_line.ensures.err,
     )
-    (line_lacks l c.requires.good c.args.lock c.requires.known c.args.trial c.requires.last
+    (line_lacks l c.requires.good c.args.lock c.requires.known c.args.attempt c.requires.last
     (λ t held. c.requires.new l.names t c.requires.good.first c.requires.good.names held.shows)
     _ _ (omega (arith, more))
-    (logs_asked c.args.trial.slot _ _ permit.kept permit.others permit.more)
+    (logs_asked c.args.attempt.slot _ _ permit.kept permit.others permit.more)
     (λ s shown. (line s c.requires.good.first c.requires.good.names shown.shows).full))
 
 pub put-requires-clause-plan : goal.put-requires-clause-plan
 unfolding plan_at
 put-requires-clause-plan g c =
     let there = c.in-Ok-print_line.ensures.heap ∙ c.permit_records.ensures.heap in
-    let h = g.M.Memory.heap c.args.memory.now in
+    let h = g.M.Memory.heap c.args.runtime.now.memory in
     let address = c.args.context.now.error_dictionary in
     rw there (ap (λ place. plan_from place (count_at h address) (capacity_at h address))
     c.requires.words)
@@ -73,17 +71,16 @@ put-requires-clause-value g c = plain_value _ _ c.boolean.ensures.plain
 pub free_lock-requires-clause-known : goal.free_lock-requires-clause-known
 free_lock-requires-clause-known g c =
     let there = c.in-Ok-print_line.ensures.heap ∙ c.permit_records.ensures.heap in
-    stands-kept (g.M.Memory.heap c.args.memory.now) _ (rw there at c.put.ensures.keeps) _
+    stands-kept (g.M.Memory.heap c.args.runtime.now.memory) _ (rw there at c.put.ensures.keeps) _
     c.args.lock _ c.requires.known
 
 pub returns : goal.returns
 returns g c =
-    let l : Lent = lent (g.M.Memory.heap c.args.memory.now) (g.M.Memory.grants c.args.memory.now)
-    c.args.context.now c.args.shared.now in
-    let h = g.M.Memory.heap c.args.memory.now in
+    let l : Lent = lent_of g.M.Memory.heap g.M.Memory.grants c.args.context.now c.args.runtime.now in
+    let h = g.M.Memory.heap c.args.runtime.now.memory in
     let mid = g.M.Memory.heap c.put.new.memory in
     let last = g.M.Memory.heap c.free_lock.new.memory in
-    let names = c.args.shared.now.names in
+    let names = c.args.runtime.now.shared.names in
     let births = birth_at h in
     let address = c.args.context.now.error_dictionary in
     let first = c.requires.good.first in
@@ -100,12 +97,12 @@ returns g c =
     let key_within : (s : Store) → IsWithin births names s c.args.newerror = λ s.
     named_within names first births _ _ _ key newerror_first s in
     rw c.in-Ok-print_line.ensures.bounded.most
-    (told_release l c.requires.good c.args.lock c.requires.known c.args.trial c.requires.last
+    (told_release l c.requires.good c.args.lock c.requires.known c.args.attempt c.requires.last
     (λ t held. c.requires.new l.names t first distinct held.shows) _ _ _ _
     (Keeps-then h mid last keeps_put c.free_lock.ensures.keeps) c.free_lock.ensures.sound
     c.in-Ok-print_line.ensures.bounded.capacity
-    (logs_changed c.args.trial.slot _ _ permit.kept permit.others permit.more _ 2
-    (then-used _ _ _ c.args.trial.slot 1 1 0 0
+    (logs_changed c.args.attempt.slot _ _ permit.kept permit.others permit.more _ 2
+    (then-used _ _ _ c.args.attempt.slot 1 1 0 0
     (rw c.in-Ok-print_line.ensures.grants at c.put.ensures.grants)
     (store-used _ _ _ c.free_lock.ensures.grants)))
     (λ s shown. (line s first distinct shown.shows).ok)

@@ -8,5 +8,5 @@ unwind_unlocked-requires-clause-free g c = no_monitor c.args.top c.in_default.no
 
 pub returns-in_default : goal.returns-in_default
 returns-in_default g c =
-    unlocked _ _ c.args.cause c.args.trial _ c.args.top (sym c.requires.top)
+    unlocked _ _ c.args.cause c.args.attempt _ c.args.top (sym c.requires.top)
     (no_monitor c.args.top c.in_default.not-Monitor) c.unwind_unlocked.ensures

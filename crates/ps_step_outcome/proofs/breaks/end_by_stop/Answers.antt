@@ -10,7 +10,7 @@ use Rattle.ps_dict.specs.Places.{count_at, capacity_at, first_place}
 use Rattle.ps_dict.specs.Puts.{plan_at, plan_from}
 use Rattle.ps_dict.proofs.Probing.{few-places}
 use Rattle.ps_dict.proofs.Shapes.{count-fits, count-shown, capacity-shown}
-use Rattle.ps_ops_state.specs.Lent.{IsShown, lent}
+use Rattle.ps_ops_state.specs.Lent.{IsShown, lent_of}
 use Rattle.ps_step_outcome.proofs.Breaking.{stops_turns, told_turns, untold_reason, unlogged}
 use Rattle.ps_step_outcome.proofs.Noting.{named_held, named_within, named_met, newerror_first, logs_asked, logs_changed}
 use Rattle.ps_step_outcome.proofs.Told.{holds_told}
@@ -22,12 +22,12 @@ position-requires-clause-held g c = named_held _ _ _ c.error_keys-keys.ensures.n
 
 pub returns-in_default : goal.returns-in_default
 returns-in_default g c =
-    let names = c.args.shared.now.names in
-    let births = birth_at (g.M.Memory.heap c.args.memory.now) in
+    let names = c.args.runtime.now.shared.names in
+    let births = birth_at (g.M.Memory.heap c.args.runtime.now.memory) in
     let met = c.requires.good.first in
     let key = c.error_keys-keys.ensures.newerror in
     rw (c.position.ensures.heap, c.position.ensures.grants)
-    (stops_turns c.args.trial _ c.requires.good c.requires.last
+    (stops_turns c.args.attempt _ c.requires.good c.requires.last
     (λ s shown. none_found _ (sym c.in_default.is
     ∙ (c.position.ensures.value names s shown.shows c.requires.good.names
     (named_within names met births _ _ _ key newerror_first s)
@@ -41,8 +41,8 @@ returns-then-not-has_new_error g c =
       c.has_new_error.ensures.heap ∙ c.position.ensures.heap,
       c.has_new_error.ensures.grants ∙ c.position.ensures.grants,
     )
-    (stops_turns c.args.trial _ c.requires.good c.requires.last
-    (λ s shown. sym (new c.args.shared.now.names s c.requires.good.first c.requires.good.names
+    (stops_turns c.args.attempt _ c.requires.good c.requires.last
+    (λ s shown. sym (new c.args.runtime.now.shared.names s c.requires.good.first c.requires.good.names
     shown.shows) ∙ c.if-not-has_new_error.true))
 
 pub returns-in-Err : goal.returns-in-Err
@@ -50,19 +50,18 @@ returns-in-Err g c =
     let new = rw c.position.ensures.heap at c.has_new_error.ensures.value in
     let grants = c.has_new_error.ensures.grants ∙ c.position.ensures.grants in
     let permit = c.permit_records.ensures in
-    let news : (s : Store) → IsShown (lent (g.M.Memory.heap c.args.memory.now)
-    (g.M.Memory.grants c.args.memory.now) c.args.context.now c.args.shared.now) s
-    → has_new_error (dictionary_at s (birth_at (g.M.Memory.heap c.args.memory.now)
+    let news : (s : Store) → IsShown (lent_of g.M.Memory.heap g.M.Memory.grants c.args.context.now c.args.runtime.now) s
+    → has_new_error (dictionary_at s (birth_at (g.M.Memory.heap c.args.runtime.now.memory)
     c.args.context.now.error_dictionary)) ≡ true = λ s shown.
-    sym (new c.args.shared.now.names s c.requires.good.first c.requires.good.names shown.shows)
+    sym (new c.args.runtime.now.shared.names s c.requires.good.first c.requires.good.names shown.shows)
     ∙ c.if-not-has_new_error.false in
     rw (permit.heap ∙ (c.has_new_error.ensures.heap ∙ c.position.ensures.heap))
-    (untold_reason c.args.trial _ c.requires.good c.requires.last news _ _ c.in-Err.reason
-    (λ s shown. unlogged c.args.trial _ c.requires.good c.requires.last news
+    (untold_reason c.args.attempt _ c.requires.good c.requires.last news _ _ c.in-Err.reason
+    (λ s shown. unlogged c.args.attempt _ c.requires.good c.requires.last news
     (g.M.Memory.grants c.permit_records.new.memory) s c.in-Err.reason
     (rw grants at c.in-Err.ensures.reason))
     (omega arith)
-    (logs_asked c.args.trial.slot _ _ (rw grants at permit.kept) (rw grants at permit.others)
+    (logs_asked c.args.attempt.slot _ _ (rw grants at permit.kept) (rw grants at permit.others)
     (rw grants at permit.more)))
 
 pub returns-in-Err-print_line : goal.returns-in-Err-print_line
@@ -80,13 +79,13 @@ returns-in-Err-print_line g c =
       c.in-Err-print_line.ensures.bounded.most,
       c.in-Err-print_line.ensures.err,
     )
-    (untold_reason c.args.trial _ c.requires.good c.requires.last
-    (λ s shown. sym (new c.args.shared.now.names s c.requires.good.first c.requires.good.names
+    (untold_reason c.args.attempt _ c.requires.good c.requires.last
+    (λ s shown. sym (new c.args.runtime.now.shared.names s c.requires.good.first c.requires.good.names
     shown.shows) ∙ c.if-not-has_new_error.false)
     _ _ _
     (λ s shown. inl ((line s c.requires.good.first c.requires.good.names shown.shows).full))
     (omega (arith, more))
-    (logs_asked c.args.trial.slot _ _ (rw grants at permit.kept) (rw grants at permit.others)
+    (logs_asked c.args.attempt.slot _ _ (rw grants at permit.kept) (rw grants at permit.others)
     (rw grants at permit.more)))
 
 pub put-requires-clause-plan : goal.put-requires-clause-plan
@@ -95,7 +94,7 @@ put-requires-clause-plan g c =
     let there =
     c.in-Ok-print_line.ensures.heap
     ∙ (c.permit_records.ensures.heap ∙ (c.has_new_error.ensures.heap ∙ c.position.ensures.heap)) in
-    let h = g.M.Memory.heap c.args.memory.now in
+    let h = g.M.Memory.heap c.args.runtime.now.memory in
     let address = c.args.context.now.error_dictionary in
     rw there (ap (λ place. plan_from place (count_at h address) (capacity_at h address))
     (sym c.in-Some.is ∙ c.position.ensures.words))
@@ -108,8 +107,8 @@ put-requires-clause-value g c = plain_value _ _ c.boolean.ensures.plain
 
 pub returns : goal.returns
 returns g c =
-    let h = g.M.Memory.heap c.args.memory.now in
-    let names = c.args.shared.now.names in
+    let h = g.M.Memory.heap c.args.runtime.now.memory in
+    let names = c.args.runtime.now.shared.names in
     let births = birth_at h in
     let address = c.args.context.now.error_dictionary in
     let first = c.requires.good.first in
@@ -126,11 +125,11 @@ returns g c =
     let key_within : (s : Store) → IsWithin births names s c.error_keys-keys.result.newerror = λ s.
     named_within names first births _ _ _ key newerror_first s in
     rw c.in-Ok-print_line.ensures.bounded.most
-    (told_turns c.args.trial _ c.requires.good c.requires.last
+    (told_turns c.args.attempt _ c.requires.good c.requires.last
     (λ s shown. sym (new names s first distinct shown.shows) ∙ c.if-not-has_new_error.false)
     _ _ _ _ (rw there at c.put.ensures.keeps) c.put.ensures.sound
     c.in-Ok-print_line.ensures.bounded.capacity
-    (logs_changed c.args.trial.slot _ _ (rw grants at permit.kept) (rw grants at permit.others)
+    (logs_changed c.args.attempt.slot _ _ (rw grants at permit.kept) (rw grants at permit.others)
     (rw grants at permit.more) _ 1 (rw c.in-Ok-print_line.ensures.grants at c.put.ensures.grants))
     (λ s shown. (line s first distinct shown.shows).ok)
     (λ s shown.

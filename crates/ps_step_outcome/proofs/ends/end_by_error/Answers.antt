@@ -13,15 +13,15 @@ use Rattle.ps_step_outcome.proofs.ends.end_by_error.Goals as goal
 
 pub returns-in-Err : goal.returns-in-Err
 returns-in-Err g c =
-    not_raised c.args.error c.args.command c.args.trial _ c.requires.good _ _ _
+    not_raised c.args.error c.args.command c.args.attempt _ c.requires.good _ _ _
     ((rw c.in-Err.is at c.permit_note.ensures.reason) c.args.error c.args.command _)
 
 pub returns-in-Err-print_line : goal.returns-in-Err-print_line
 returns-in-Err-print_line g c =
     let permit = c.permit_note.ensures in
     let entries = c.entries_of-entries.ensures in
-    let names = c.args.shared.now.names in
-    let births = birth_at (g.M.Memory.heap c.args.memory.now) in
+    let names = c.args.runtime.now.shared.names in
+    let births = birth_at (g.M.Memory.heap c.args.runtime.now.memory) in
     let planned = rw permit.heap at c.plan_error-plan.ensures.value in
     let heap = c.plan_error-plan.ensures.heap ∙ permit.heap in
     let line = rw heap at c.in-Err-print_line.ensures.prints in
@@ -36,26 +36,26 @@ returns-in-Err-print_line g c =
       c.in-Err-print_line.ensures.bounded.most,
       c.in-Err-print_line.ensures.err,
     )
-    (not_ended c.args.error c.args.command c.args.trial _ c.requires.good c.requires.last
+    (not_ended c.args.error c.args.command c.args.attempt _ c.requires.good c.requires.last
     c.plan_error-plan.result
     (λ s held. planned names s held.shown.shows c.requires.good.names
     (entries.within _ names s first held.words_within.0)
     ∙ plan_valued births names c.entries_of-entries.result false c.args.error _ valued _)
     _ _
-    (λ s held. subst (λ (text : List ℕ). c.args.shared.now.printed.room < length text)
+    (λ s held. subst (λ (text : List ℕ). c.args.runtime.now.shared.printed.room < length text)
     (λ i. planned_line s c.plan_error-plan.result
     (name_valued births names c.entries_of-entries.result false c.args.error _ valued i)
     (command_valued births names c.entries_of-entries.result false c.args.error _ valued i))
     (line s held.shown.shows (entries.within _ names s first held.words_within.0)).full)
     (omega (arith, more))
-    (logs_asked c.args.trial.slot _ _ permit.kept permit.others permit.more))
+    (logs_asked c.args.attempt.slot _ _ permit.kept permit.others permit.more))
 
 pub returns : goal.returns
 returns g c =
     let permit = c.permit_note.ensures in
     let entries = c.entries_of-entries.ensures in
-    let names = c.args.shared.now.names in
-    let h = g.M.Memory.heap c.args.memory.now in
+    let names = c.args.runtime.now.shared.names in
+    let h = g.M.Memory.heap c.args.runtime.now.memory in
     let births = birth_at h in
     let planned = rw permit.heap at c.plan_error-plan.ensures.value in
     let heap = c.plan_error-plan.ensures.heap ∙ permit.heap in
@@ -65,14 +65,14 @@ returns g c =
     let first = c.requires.good.first in
     let valued = entries.values births names first in
     rw c.in-Ok-print_line.ensures.bounded.most
-    (ended_on c.args.error c.args.command c.args.trial _ c.requires.good c.requires.last
+    (ended_on c.args.error c.args.command c.args.attempt _ c.requires.good c.requires.last
     c.plan_error-plan.result
     (λ s held. planned names s held.shown.shows c.requires.good.names
     (entries.within _ names s first held.words_within.0)
     ∙ plan_valued births names c.entries_of-entries.result false c.args.error _ valued _)
     _ _ _ _ (rw there at c.put_error.ensures.keeps)
     (λ s held. (line s held.shown.shows (entries.within _ names s first held.words_within.0)).ok
-    ∙ (λ i. c.args.shared.now.printed.bytes ++ planned_line s c.plan_error-plan.result
+    ∙ (λ i. c.args.runtime.now.shared.printed.bytes ++ planned_line s c.plan_error-plan.result
     (name_valued births names c.entries_of-entries.result false c.args.error _ valued i)
     (command_valued births names c.entries_of-entries.result false c.args.error _ valued i)))
     (λ s held. subst (λ pairs. Shows (g.M.Memory.heap c.put_error.new.memory) names
@@ -80,6 +80,6 @@ returns g c =
     (dictionary_at s (births c.args.context.now.error_dictionary))))) valued
     ((rw there at c.put_error.ensures.shows) names s held.shown.shows c.requires.good.names
     (entries.within _ names s first held.words_within.0)))
-    (logs_noted c.args.trial.slot _ _ permit.kept permit.others permit.more _
+    (logs_noted c.args.attempt.slot _ _ permit.kept permit.others permit.more _
     c.plan_error-plan.result (rw grants at c.put_error.ensures.grants))
     c.put_error.ensures.sound c.in-Ok-print_line.ensures.bounded.capacity c.stands.result c.stands.ensures)

@@ -6,7 +6,7 @@ use Rattle.ps_mem.specs.Heap.{birth_at}
 use Rattle.ps_names.specs.Names.{AreNames}
 use Rattle.ps_ops_operands.proofs.Ready.{plain_value, plain_within}
 use Rattle.ps_ops_types.proofs.First.{name_held}
-use Rattle.ps_ops_state.specs.Lent.{Lent, lent}
+use Rattle.ps_ops_state.specs.Lent.{Lent, lent_of}
 use Rattle.ps_ops_state.proofs.Forming.{formed_good, cut_names}
 use Rattle.ps_step_outcome.specs.Turns.{error_turn, nothing_more}
 use Rattle.ps_step_outcome.proofs.Composing.{turns_shown}
@@ -21,8 +21,7 @@ use Rattle.ps_step_tokens.proofs.missing.raise_missing.Goals as goal
 
 pub raise-requires-clause-good : goal.raise-requires-clause-good
 raise-requires-clause-good g c =
-    let l : Lent = (lent (g.M.Memory.heap c.args.memory.now) (g.M.Memory.grants c.args.memory.now)
-    c.args.context.now c.args.shared.now) in
+    let l : Lent = (lent_of g.M.Memory.heap g.M.Memory.grants c.args.context.now c.args.runtime.now) in
     let text = c.args.text.now in
     let names = c.intern.new.self in
     let met = c.in-Ok.ensures.names in
@@ -42,8 +41,7 @@ raise-requires-in-Err-Full-clause-held g c = plain_value _ _ c.null.ensures.plai
 
 pub returns-in-Ok-raise : goal.returns-in-Ok-raise
 returns-in-Ok-raise g c =
-    let l : Lent = (lent (g.M.Memory.heap c.args.memory.now) (g.M.Memory.grants c.args.memory.now)
-    c.args.context.now c.args.shared.now) in
+    let l : Lent = (lent_of g.M.Memory.heap g.M.Memory.grants c.args.context.now c.args.runtime.now) in
     let text = c.args.text.now in
     let names = c.intern.new.self in
     let met = c.in-Ok.ensures.names in
@@ -57,10 +55,10 @@ returns-in-Ok-raise g c =
     let formed = met_formed l.names text c.len-count.ensures.names c.requires.short names met
     news in
     turns_formed l (added l.names text) names are nothing_more nothing_more
-    (missing_turn c.args.error text) (error_turn c.args.error word) c.args.trial
+    (missing_turn c.args.error text) (error_turn c.args.error word) c.args.attempt
     (missing_as l text c.args.error names formed (added l.names text) are word means)
     (λ s shown. refl) c.in-Ok-raise.turned _
-    (turns_shown (word ∷ []) [] nothing_more (error_turn c.args.error word) c.args.trial _ _ _
+    (turns_shown (word ∷ []) [] nothing_more (error_turn c.args.error word) c.args.attempt _ _ _
     (λ s shown. (
       name_within Executable word c.in-Ok.id.0 c.name_word.ensures.value names text
           c.in-Ok.ensures.stands _ s,
@@ -69,8 +67,7 @@ returns-in-Ok-raise g c =
 
 pub returns-in-Err : goal.returns-in-Err
 returns-in-Err g c =
-    let l : Lent = (lent (g.M.Memory.heap c.args.memory.now) (g.M.Memory.grants c.args.memory.now)
-    c.args.context.now c.args.shared.now) in
+    let l : Lent = (lent_of g.M.Memory.heap g.M.Memory.grants c.args.context.now c.args.runtime.now) in
     let text = c.args.text.now in
     let names = c.intern.new.self in
     let met = c.in-Ok.ensures.names in
@@ -83,7 +80,7 @@ returns-in-Err g c =
     c.in-Ok.ensures.stands (birth_at l.heap) in
     let formed = met_formed l.names text c.len-count.ensures.names c.requires.short names met
     news in
-    let turns = turns_shown (word ∷ []) [] nothing_more (error_turn c.args.error word) c.args.trial
+    let turns = turns_shown (word ∷ []) [] nothing_more (error_turn c.args.error word) c.args.attempt
     _ _ _ (λ s shown. (
       name_within Executable word c.in-Ok.id.0 c.name_word.ensures.value names
           text c.in-Ok.ensures.stands _ s,
@@ -96,17 +93,16 @@ returns-in-Err g c =
     c.len-count.ensures.count) in
     rw cut
     (unmade_formed l (added l.names text) names are nothing_more nothing_more
-    (missing_turn c.args.error text) (error_turn c.args.error word) c.args.trial
+    (missing_turn c.args.error text) (error_turn c.args.error word) c.args.attempt
     (missing_as l text c.args.error names formed (added l.names text) are word means)
     (λ s shown. refl) c.requires.good c.in-Err.reason _ turns)
 
 pub returns-in-Err-Full : goal.returns-in-Err-Full
 returns-in-Err-Full g c =
-    let l : Lent = (lent (g.M.Memory.heap c.args.memory.now) (g.M.Memory.grants c.args.memory.now)
-    c.args.context.now c.args.shared.now) in
+    let l : Lent = (lent_of g.M.Memory.heap g.M.Memory.grants c.args.context.now c.args.runtime.now) in
     let text = c.args.text.now in
     let full = c.intern.ensures.full.0 (c.in-Err-Full.is ∙ ap Err c.in-Err-Full.field-0-is) in
-    raised nothing_more (missing_turn c.args.error text) c.args.trial _ l _ c.null.result
+    raised nothing_more (missing_turn c.args.error text) c.args.attempt _ l _ c.null.result
     (λ s shown. plain_within _ _ s _ c.null.ensures.plain) LimitCheck
     (λ s shown. missing_overflows l text c.args.error (none_formed l.names text
     c.len-count.ensures.names c.requires.short full.0 full.2) c.null.result
@@ -115,11 +111,10 @@ returns-in-Err-Full g c =
 
 pub returns-in-Err-Memory : goal.returns-in-Err-Memory
 returns-in-Err-Memory g c =
-    let l : Lent = (lent (g.M.Memory.heap c.args.memory.now) (g.M.Memory.grants c.args.memory.now)
-    c.args.context.now c.args.shared.now) in
+    let l : Lent = (lent_of g.M.Memory.heap g.M.Memory.grants c.args.context.now c.args.runtime.now) in
     let text = c.args.text.now in
     let refused = c.intern.ensures.memory (c.in-Err-Memory.is ∙ ap Err c.in-Err-Memory.field-0-is) in
     rw c.in-Err-Memory.ensures.fault
     (missing_refused l text c.args.error (meet l.names text)
     (new_formed l.names text c.len-count.ensures.names c.requires.short refused.0 refused.2)
-    c.requires.good refused.0 refl c.args.trial)
+    c.requires.good refused.0 refl c.args.attempt)

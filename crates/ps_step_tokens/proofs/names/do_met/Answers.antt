@@ -19,10 +19,10 @@ pub returns-in-Literal : goal.returns-in-Literal
 returns-in-Literal g c =
     rw c.in-Literal.is
     (lent_turns _ c.args.word c.requires.word nothing_more (pushed_turn c.args.word c.args.word)
-    c.args.trial _ _ c.push_value.ensures)
+    c.args.attempt _ _ c.push_value.ensures)
 
 pub returns-in-Executable : goal.returns-in-Executable
 returns-in-Executable g c =
     rw c.in-Executable.is
     (lent_turns _ c.args.word c.requires.word (executed_asks g.O.Operate.asks c.args.word)
-    (executed_turn c.args.word c.args.word) c.args.trial _ _ c.execute_name.ensures)
+    (executed_turn c.args.word c.args.word) c.args.attempt _ _ c.execute_name.ensures)

@@ -6,7 +6,7 @@ use Rattle.ps_mem.specs.Heap.{birth_at}
 use Rattle.ps_names.specs.Names.{AreNames}
 use Rattle.ps_names.proofs.Places.{meet_new}
 use Rattle.ps_ops_operands.proofs.Ready.{plain_value, plain_within}
-use Rattle.ps_ops_state.specs.Lent.{Lent, lent}
+use Rattle.ps_ops_state.specs.Lent.{Lent, lent_of}
 use Rattle.ps_ops_state.proofs.Forming.{formed_good, cut_names}
 use Rattle.ps_step_tokens.specs.Names.{name_token, met_turn, met_asks}
 use Rattle.ps_step_tokens.specs.Tokens.{token_turn, token_asks}
@@ -19,8 +19,7 @@ use Rattle.ps_step_tokens.proofs.names.do_name.Goals as goal
 
 pub do_met-requires-clause-good : goal.do_met-requires-clause-good
 do_met-requires-clause-good g c =
-    let l : Lent = (lent (g.M.Memory.heap c.args.memory.now) (g.M.Memory.grants c.args.memory.now)
-    c.args.context.now c.args.shared.now) in
+    let l : Lent = (lent_of g.M.Memory.heap g.M.Memory.grants c.args.context.now c.args.runtime.now) in
     let text = c.args.text.now in
     let names = c.intern.new.self in
     let met = c.in-Ok.ensures.names in
@@ -44,8 +43,7 @@ raise-requires g c = record {
 
 pub returns-in-Ok-do_met : goal.returns-in-Ok-do_met
 returns-in-Ok-do_met g c =
-    let l : Lent = (lent (g.M.Memory.heap c.args.memory.now) (g.M.Memory.grants c.args.memory.now)
-    c.args.context.now c.args.shared.now) in
+    let l : Lent = (lent_of g.M.Memory.heap g.M.Memory.grants c.args.context.now c.args.runtime.now) in
     let text = c.args.text.now in
     let kind = c.args.kind in
     let names = c.intern.new.self in
@@ -62,7 +60,7 @@ returns-in-Ok-do_met g c =
     let formed = met_formed l.names text c.len-count.ensures.names c.requires.short names met
     news in
     turns_formed l (added l.names text) names are (token_asks asks (name_token kind text))
-    (met_asks asks kind word) (token_turn (name_token kind text)) (met_turn kind word) c.args.trial
+    (met_asks asks kind word) (token_turn (name_token kind text)) (met_turn kind word) c.args.attempt
     (met_as l text names formed (added l.names text) are kind word means)
     (λ s shown. met_asked l text names formed (added l.names text) are kind word means asks met s
     shown)
@@ -70,8 +68,7 @@ returns-in-Ok-do_met g c =
 
 pub returns-in-Err : goal.returns-in-Err
 returns-in-Err g c =
-    let l : Lent = (lent (g.M.Memory.heap c.args.memory.now) (g.M.Memory.grants c.args.memory.now)
-    c.args.context.now c.args.shared.now) in
+    let l : Lent = (lent_of g.M.Memory.heap g.M.Memory.grants c.args.context.now c.args.runtime.now) in
     let text = c.args.text.now in
     let kind = c.args.kind in
     let names = c.intern.new.self in
@@ -95,7 +92,7 @@ returns-in-Err g c =
     c.len-count.ensures.count) in
     rw cut
     (unmade_formed l (added l.names text) names are (token_asks asks (name_token kind text))
-    (met_asks asks kind word) (token_turn (name_token kind text)) (met_turn kind word) c.args.trial
+    (met_asks asks kind word) (token_turn (name_token kind text)) (met_turn kind word) c.args.attempt
     (met_as l text names formed (added l.names text) are kind word means)
     (λ s shown. met_asked l text names formed (added l.names text) are kind word means asks met s
     shown)
@@ -103,24 +100,22 @@ returns-in-Err g c =
 
 pub returns-in-Err-Memory : goal.returns-in-Err-Memory
 returns-in-Err-Memory g c =
-    let l : Lent = (lent (g.M.Memory.heap c.args.memory.now) (g.M.Memory.grants c.args.memory.now)
-    c.args.context.now c.args.shared.now) in
+    let l : Lent = (lent_of g.M.Memory.heap g.M.Memory.grants c.args.context.now c.args.runtime.now) in
     let text = c.args.text.now in
     let refused = c.intern.ensures.memory (c.in-Err-Memory.is ∙ ap Err c.in-Err-Memory.field-0-is) in
     let new = sym (meet_new text l.names refused.0) in
     rw c.in-Err-Memory.ensures.fault
     (name_refused l text (meet l.names text)
     (new_formed l.names text c.len-count.ensures.names c.requires.short refused.0 refused.2)
-    c.requires.good refused.0 refl g.O.Operate.asks c.args.kind c.args.trial)
+    c.requires.good refused.0 refl g.O.Operate.asks c.args.kind c.args.attempt)
 
 pub returns-in-Err-Full : goal.returns-in-Err-Full
 returns-in-Err-Full g c =
-    let l : Lent = (lent (g.M.Memory.heap c.args.memory.now) (g.M.Memory.grants c.args.memory.now)
-    c.args.context.now c.args.shared.now) in
+    let l : Lent = (lent_of g.M.Memory.heap g.M.Memory.grants c.args.context.now c.args.runtime.now) in
     let text = c.args.text.now in
     let full = c.intern.ensures.full.0 (c.in-Err-Full.is ∙ ap Err c.in-Err-Full.field-0-is) in
     raised (token_asks g.O.Operate.asks (name_token c.args.kind text))
-    (token_turn (name_token c.args.kind text)) c.args.trial _ l _ c.null.result
+    (token_turn (name_token c.args.kind text)) c.args.attempt _ l _ c.null.result
     (λ s shown. plain_within _ _ s _ c.null.ensures.plain) LimitCheck
     (λ s shown. name_overflows l text (none_formed l.names text c.len-count.ensures.names
     c.requires.short full.0 full.2) c.null.result (c.null.ensures.value _ _) c.args.kind s)

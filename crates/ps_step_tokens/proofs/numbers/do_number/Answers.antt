@@ -7,7 +7,7 @@ use Rattle.ps_language.specs.Token.{number_token}
 use Rattle.ps_mem.specs.Heap.{birth_at}
 use Rattle.ps_mem.specs.Meaning.{value_of}
 use Rattle.ps_ops_operands.proofs.Ready.{plain_value}
-use Rattle.ps_ops_state.specs.Lent.{Lent, lent}
+use Rattle.ps_ops_state.specs.Lent.{Lent, lent_of}
 use Rattle.ps_step_outcome.specs.Turns.{nothing_more}
 use Rattle.ps_step_execute.specs.Values.{pushed_turn}
 use Rattle.ps_step_tokens.specs.Tokens.{token_turn}
@@ -24,19 +24,18 @@ push_value-requires-clause-command g c = plain_value _ _ c.integer-word.ensures.
 
 pub returns : goal.returns
 returns g c =
-    let l : Lent = (lent (g.M.Memory.heap c.args.memory.now) (g.M.Memory.grants c.args.memory.now)
-    c.args.context.now c.args.shared.now) in
+    let l : Lent = (lent_of g.M.Memory.heap g.M.Memory.grants c.args.context.now c.args.runtime.now) in
     let fits : SFits w32 c.args.number = search rules in
     let value : (births : ℕ → ℕ) (names : List (List ℕ))
     → value_of births names c.integer-word.result ≡ integer c.args.number =
     simp to_z-of_z at c.integer-word.ensures.value in
     turns_as nothing_more nothing_more
     (pushed_turn c.integer-word.result c.integer-word.result)
-    (token_turn (number_token c.args.number)) c.args.trial _ l _
+    (token_turn (number_token c.args.number)) c.args.attempt _ l _
     (λ s shown. number_pushed l c.integer-word.result c.args.number
     (value (birth_at l.heap) l.names) s)
     (λ s shown. refl)
     (lent_turns l c.integer-word.result (plain_lent l c.integer-word.result
     c.integer-word.ensures.plain) nothing_more
-    (pushed_turn c.integer-word.result c.integer-word.result) c.args.trial _ _
+    (pushed_turn c.integer-word.result c.integer-word.result) c.args.attempt _ _
     c.push_value.ensures)

@@ -5,7 +5,7 @@ use Rattle.ps_mem.proofs.KeepsLemmas.{Keeps-Extends, AreValues-kept}
 use Rattle.ps_ops_operands.specs.Changes.{IsRoomReason}
 use Rattle.ps_ops_operands.proofs.Ready.{plain_value, plain_within}
 use Rattle.ps_ops_state.specs.declared.lent.Scratch.{Scratch}
-use Rattle.ps_ops_state.specs.Lent.{Lent, lent}
+use Rattle.ps_ops_state.specs.Lent.{Lent, lent_of}
 use Rattle.ps_ops_state.proofs.Meeting.{at_least-same, logs-same}
 use Rattle.ps_step_tokens.specs.Made.{IsMade, formed_asks, formed_turn, whole_made}
 use Rattle.ps_step_tokens.specs.Procedures.{procedure_births, procedure_words, tokens_in}
@@ -22,15 +22,14 @@ raise-requires g c = record {
   held = plain_value _ _ c.null.ensures.plain;
 }
 
-pub returns-then-trial : goal.returns-then-trial
-returns-then-trial g c =
-    let l : Lent = (lent (g.M.Memory.heap c.args.memory.now) (g.M.Memory.grants c.args.memory.now)
-    c.args.context.now c.args.shared.now) in
+pub returns-then-attempt : goal.returns-then-attempt
+returns-then-attempt g c =
+    let l : Lent = (lent_of g.M.Memory.heap g.M.Memory.grants c.args.context.now c.args.runtime.now) in
     let content = tokens_in c.args.text.now c.args.elements.now in
-    lacked (formed_asks content) (formed_turn content) c.args.trial _ l _ c.null.result
+    lacked (formed_asks content) (formed_turn content) c.args.attempt _ l _ c.null.result
     (λ s shown. plain_within _ _ s _ c.null.ensures.plain)
-    (λ s shown. formed_lacks l content c.null.result (c.null.ensures.value _ _) c.args.trial _ _
-    c.if-trial.true s) c.raise.ensures
+    (λ s shown. formed_lacks l content c.null.result (c.null.ensures.value _ _) c.args.attempt _ _
+    c.if-attempt.true s) c.raise.ensures
 
 pub granted-requires : goal.granted-requires
 granted-requires g c =
@@ -39,26 +38,24 @@ granted-requires g c =
 
 pub returns-in-Err : goal.returns-in-Err
 returns-in-Err g c =
-    let l : Lent = (lent (g.M.Memory.heap c.args.memory.now) (g.M.Memory.grants c.args.memory.now)
-    c.args.context.now c.args.shared.now) in
+    let l : Lent = (lent_of g.M.Memory.heap g.M.Memory.grants c.args.context.now c.args.runtime.now) in
     let content = tokens_in c.args.text.now c.args.elements.now in
     let words = c.in-Some.ensures.words c.args.text.now in
     let births = c.in-Some.ensures.births c.args.text.now in
     rw c.in-Err.ensures.heap
-    (no_room (formed_asks content) (formed_turn content) c.args.trial l c.requires.good
-    c.if-trial.false (procedure_words content) (procedure_births content) (omega arith)
+    (no_room (formed_asks content) (formed_turn content) c.args.attempt l c.requires.good
+    c.if-attempt.false (procedure_words content) (procedure_births content) (omega arith)
     c.in-Err.reason
     (subst (λ (n : ℕ). IsRoomReason c.in-Err.reason l.heap n (procedure_births content)) words
     (subst (λ (n : ℕ). IsRoomReason c.in-Err.reason l.heap c.in-Some.room.words n) births
     c.in-Err.ensures.reason))
     (g.M.Memory.grants c.granted.new.memory)
-    (asked_logs l.grants _ c.args.trial.slot c.in-Err.ensures.kept)
-    (λ s shown. formed_wants l content c.args.trial c.requires.good c.if-trial.false s))
+    (asked_logs l.grants _ c.args.attempt.slot c.in-Err.ensures.kept)
+    (λ s shown. formed_wants l content c.args.attempt c.requires.good c.if-attempt.false s))
 
 pub returns-then-is_err : goal.returns-then-is_err
 returns-then-is_err g c =
-    let l : Lent = (lent (g.M.Memory.heap c.args.memory.now) (g.M.Memory.grants c.args.memory.now)
-    c.args.context.now c.args.shared.now) in
+    let l : Lent = (lent_of g.M.Memory.heap g.M.Memory.grants c.args.context.now c.args.runtime.now) in
     let content = tokens_in c.args.text.now c.args.elements.now in
     let words = c.in-Some.ensures.words c.args.text.now in
     let full = on_err c.reserve.result (sym c.is_err.ensures.value ∙ c.if-is_err.true)
@@ -70,10 +67,10 @@ returns-then-is_err g c =
     let scratch : Scratch = record l.scratch { words = c.reserve.new.self } in
     let capacity = c.reserve.ensures.capacity in
     rw c.in_default-granted.ensures.heap
-    (formed_unlisted l content c.args.trial c.requires.good c.if-trial.false
+    (formed_unlisted l content c.args.attempt c.requires.good c.if-attempt.false
     (omega (arith, full, words, is, none, l.scratch.words.ok.0))
     (g.M.Memory.grants c.granted.new.memory)
-    (asked_logs l.grants _ c.args.trial.slot c.in_default-granted.ensures.kept) scratch
+    (asked_logs l.grants _ c.args.attempt.slot c.in_default-granted.ensures.kept) scratch
     (record {
       text = empty.text;
       sought = empty.sought;
@@ -83,8 +80,7 @@ returns-then-is_err g c =
 
 pub returns : goal.returns
 returns g c =
-    let l : Lent = (lent (g.M.Memory.heap c.args.memory.now) (g.M.Memory.grants c.args.memory.now)
-    c.args.context.now c.args.shared.now) in
+    let l : Lent = (lent_of g.M.Memory.heap g.M.Memory.grants c.args.context.now c.args.runtime.now) in
     let content = tokens_in c.args.text.now c.args.elements.now in
     let heap = g.M.Memory.heap c.make_elements-word.new.memory in
     let made_here = c.make_elements-word.ensures.made in
@@ -97,11 +93,11 @@ returns g c =
     let capacity = c.reserve.ensures.capacity in
     let more = c.make_elements-word.ensures.capacity in
     rw c.push_reserved.ensures
-    (makes_turns (formed_asks content) (formed_turn content) c.args.trial l c.requires.good
-    c.if-trial.false heap (g.M.Memory.grants c.make_elements-word.new.memory)
+    (makes_turns (formed_asks content) (formed_turn content) c.args.attempt l c.requires.good
+    c.if-attempt.false heap (g.M.Memory.grants c.make_elements-word.new.memory)
     (c.make_elements-word.result ∷ l.operands) scratch keeps made.sound
     (made.held, AreValues-kept l.heap heap keeps l.operands c.requires.good.operands)
-    (made_logs l.grants _ c.args.trial.slot c.in_default-granted.ensures.kept _
+    (made_logs l.grants _ c.args.attempt.slot c.in_default-granted.ensures.kept _
     c.make_elements-word.ensures.logs)
     (record {
       text = empty.text;
@@ -109,7 +105,7 @@ returns g c =
       words = c.make_elements-word.ensures.items ∙ (c.reserve.ensures.items ∙ empty.words);
     })
     (record { text = omega arith; sought = omega arith; words = omega (arith, capacity, more) })
-    (λ s shown. formed_makes l content c.args.trial c.requires.good c.if-trial.false heap
+    (λ s shown. formed_makes l content c.args.attempt c.requires.good c.if-attempt.false heap
     (g.M.Memory.grants c.make_elements-word.new.memory) keeps c.make_elements-word.result scratch
     made s shown))
 
@@ -122,12 +118,11 @@ make_elements-word-requires-clause-list g c =
 
 pub returns-in_default : goal.returns-in_default
 returns-in_default g c =
-    let l : Lent = (lent (g.M.Memory.heap c.args.memory.now) (g.M.Memory.grants c.args.memory.now)
-    c.args.context.now c.args.shared.now) in
+    let l : Lent = (lent_of g.M.Memory.heap g.M.Memory.grants c.args.context.now c.args.runtime.now) in
     let content = tokens_in c.args.text.now c.args.elements.now in
     let past = c.in_default.ensures.past c.args.text.now in
     let is = listed_many (procedure_words content) past in
     let capacity : vec_capacity l.scratch.words < 2 ^ 64 = search rules in
-    formed_unlisted l content c.args.trial c.requires.good c.if-trial.false
-    (omega (arith, is, capacity)) l.grants (logs-same 0 l.grants c.args.trial.slot) l.scratch
+    formed_unlisted l content c.args.attempt c.requires.good c.if-attempt.false
+    (omega (arith, is, capacity)) l.grants (logs-same 0 l.grants c.args.attempt.slot) l.scratch
     c.requires.good.empty (at_least-same _)

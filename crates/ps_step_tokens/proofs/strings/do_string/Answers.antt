@@ -12,7 +12,7 @@ use Rattle.ps_mem.proofs.KeepsLemmas.{Keeps-Extends, AreValues-kept}
 use Rattle.ps_ops_operands.specs.Changes.{IsRoomReason}
 use Rattle.ps_ops_operands.proofs.Making.{whole_part}
 use Rattle.ps_ops_operands.proofs.Ready.{plain_value, plain_within}
-use Rattle.ps_ops_state.specs.Lent.{Lent, lent}
+use Rattle.ps_ops_state.specs.Lent.{Lent, lent_of}
 use Rattle.ps_ops_state.proofs.Meeting.{at_least-same}
 use Rattle.ps_ops_strings.proofs.Made.{stands_whole}
 use Rattle.ps_step_outcome.specs.Turns.{nothing_more}
@@ -28,48 +28,44 @@ raise-requires-clause-held g c = plain_value _ _ c.null-command.ensures.plain
 
 pub returns-then-is_full : goal.returns-then-is_full
 returns-then-is_full g c =
-    let l : Lent = (lent (g.M.Memory.heap c.args.memory.now) (g.M.Memory.grants c.args.memory.now)
-    c.args.context.now c.args.shared.now) in
-    raised _ _ c.args.trial _ l _ c.null-command.result
+    let l : Lent = (lent_of g.M.Memory.heap g.M.Memory.grants c.args.context.now c.args.runtime.now) in
+    raised _ _ c.args.attempt _ l _ c.null-command.result
     (λ s shown. plain_within _ _ s _ c.null-command.ensures.plain) StackOverflow
     (λ s shown. string_overflows l c.args.bytes.now c.null-command.result
     (c.null-command.ensures.value _ _)
     (grind (arith, nat_tests, c.is_full.ensures, c.if-is_full.true)) s) c.raise.ensures
 
-pub raise-requires-then-trial-clause-held : goal.raise-requires-then-trial-clause-held
-raise-requires-then-trial-clause-held g c = plain_value _ _ c.null-command.ensures.plain
+pub raise-requires-then-attempt-clause-held : goal.raise-requires-then-attempt-clause-held
+raise-requires-then-attempt-clause-held g c = plain_value _ _ c.null-command.ensures.plain
 
-pub returns-then-trial : goal.returns-then-trial
-returns-then-trial g c =
-    let l : Lent = (lent (g.M.Memory.heap c.args.memory.now) (g.M.Memory.grants c.args.memory.now)
-    c.args.context.now c.args.shared.now) in
-    lacked _ _ c.args.trial _ l _ c.null-command.result
+pub returns-then-attempt : goal.returns-then-attempt
+returns-then-attempt g c =
+    let l : Lent = (lent_of g.M.Memory.heap g.M.Memory.grants c.args.context.now c.args.runtime.now) in
+    lacked _ _ c.args.attempt _ l _ c.null-command.result
     (λ s shown. plain_within _ _ s _ c.null-command.ensures.plain)
     (λ s shown. string_lacks l c.args.bytes.now c.null-command.result
     (c.null-command.ensures.value _ _)
-    (grind (arith, nat_tests, c.is_full.ensures, c.if-is_full.false)) c.args.trial _ _
-    c.if-trial.true s) c.raise-then-trial.ensures
+    (grind (arith, nat_tests, c.is_full.ensures, c.if-is_full.false)) c.args.attempt _ _
+    c.if-attempt.true s) c.raise-then-attempt.ensures
 
 pub returns-in-Err : goal.returns-in-Err
 returns-in-Err g c =
-    let l : Lent = (lent (g.M.Memory.heap c.args.memory.now) (g.M.Memory.grants c.args.memory.now)
-    c.args.context.now c.args.shared.now) in
+    let l : Lent = (lent_of g.M.Memory.heap g.M.Memory.grants c.args.context.now c.args.runtime.now) in
     let text = c.args.bytes.now in
     rw c.in-Err.ensures.heap
-    (no_room nothing_more (token_turn (string_token text)) c.args.trial l c.requires.good
-    c.if-trial.false (2 + words_for (length text)) 1 (omega arith) c.in-Err.reason
+    (no_room nothing_more (token_turn (string_token text)) c.args.attempt l c.requires.good
+    c.if-attempt.false (2 + words_for (length text)) 1 (omega arith) c.in-Err.reason
     (subst (λ (n : ℕ). IsRoomReason c.in-Err.reason l.heap (2 + n) 1)
     c.words_of_string-words.ensures c.in-Err.ensures.reason)
     (g.M.Memory.grants c.granted.new.memory)
-    (asked_logs l.grants _ c.args.trial.slot c.in-Err.ensures.kept)
+    (asked_logs l.grants _ c.args.attempt.slot c.in-Err.ensures.kept)
     (λ s shown. string_wants l text c.null-command.result (c.null-command.ensures.value _ _)
-    (grind (arith, nat_tests, c.is_full.ensures, c.if-is_full.false)) c.args.trial
-    c.requires.good c.if-trial.false (2 + words_for (length text)) refl s))
+    (grind (arith, nat_tests, c.is_full.ensures, c.if-is_full.false)) c.args.attempt
+    c.requires.good c.if-attempt.false (2 + words_for (length text)) refl s))
 
 pub returns : goal.returns
 returns g c =
-    let l : Lent = (lent (g.M.Memory.heap c.args.memory.now) (g.M.Memory.grants c.args.memory.now)
-    c.args.context.now c.args.shared.now) in
+    let l : Lent = (lent_of g.M.Memory.heap g.M.Memory.grants c.args.context.now c.args.runtime.now) in
     let text = c.args.bytes.now in
     let heap = g.M.Memory.heap c.make_string-part.new.memory in
     let part = c.make_string-part.result in
@@ -84,15 +80,15 @@ returns g c =
     let held : IsValue heap c.string_word.result = c.string_word.ensures.held heap
     (stands_whole heap part (length text) part_is c.make_string-part.ensures.known) in
     rw c.push_reserved.ensures
-    (makes_turns nothing_more (token_turn (string_token text)) c.args.trial l c.requires.good
-    c.if-trial.false heap _ (c.string_word.result ∷ l.operands) l.scratch keeps
+    (makes_turns nothing_more (token_turn (string_token text)) c.args.attempt l c.requires.good
+    c.if-attempt.false heap _ (c.string_word.result ∷ l.operands) l.scratch keeps
     c.make_string-part.ensures.sound
     (held, AreValues-kept l.heap heap keeps l.operands c.requires.good.operands)
-    (used_logs l.grants _ c.args.trial.slot c.granted.ensures.kept _ _ _ _
+    (used_logs l.grants _ c.args.attempt.slot c.granted.ensures.kept _ _ _ _
     c.make_string-part.ensures.grants) c.requires.good.empty (at_least-same _)
     (λ s shown. string_makes l text c.null-command.result (c.null-command.ensures.value _ _)
-    (grind (arith, nat_tests, c.is_full.ensures, c.if-is_full.false)) c.args.trial
-    c.requires.good c.if-trial.false heap _ keeps c.string_word.result part part_is born
+    (grind (arith, nat_tests, c.is_full.ensures, c.if-is_full.false)) c.args.attempt
+    c.requires.good c.if-attempt.false heap _ keeps c.string_word.result part part_is born
     (λ births names. c.string_word.ensures.value births names)
     (λ births names s inside. c.string_word.ensures.within births names s inside) s shown
     (shows l.names s shown.shows)))

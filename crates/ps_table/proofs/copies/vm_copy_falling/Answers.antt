@@ -3,8 +3,8 @@ use Rattle.ps_core_machine.specs.declared.events.Event.TheVariants.{FieldStore, 
 use Rattle.ps_core_machine.specs.declared.events.Vm.{Vm}
 use Rattle.ps_core_machine.specs.Conditions.{VmMay}
 use Rattle.ps_core_machine.specs.Steps.{table_size, field_stored}
-use Rattle.ps_core_memory.specs.Stores.{numbers, fields_stored_down}
-use Rattle.ps_core_memory.specs.Laws.{words_copied}
+use Rattle.ps_core_laws.specs.Stores.{numbers, fields_stored_down}
+use Rattle.ps_core_laws.specs.MemoryLaws.{words_copied}
 use Rattle.ps_table.proofs.CopySteps.{falls_from, falling_all, falling_none}
 use Rattle.ps_table.proofs.Facts.{field_place, vm_facts}
 use Rattle.ps_table.proofs.Kept.{keeps_on, keeps_by, keeps_same}

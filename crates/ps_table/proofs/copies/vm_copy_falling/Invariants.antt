@@ -1,8 +1,8 @@
 use Rattle.std.proofs.Common.{◌≡◌, ◌+◌, ◌≤◌, true, drop}
 use Rattle.ps_core_machine.specs.Steps.{table_size}
-use Rattle.ps_core_memory.specs.Shown.{VmRuns}
-use Rattle.ps_core_memory.specs.Stores.{numbers, fields_stored_down}
-use Rattle.ps_core_memory.specs.Laws.{words_copied}
+use Rattle.ps_core_laws.specs.Shown.{VmRuns}
+use Rattle.ps_core_laws.specs.Stores.{numbers, fields_stored_down}
+use Rattle.ps_core_laws.specs.MemoryLaws.{words_copied}
 use Rattle.ps_table.specs.Mirrored.{KeepsGc}
 use Rattle.ps_table.proofs.copies.vm_copy_falling.Given as goal
 

@@ -1,5 +1,5 @@
 use Rattle.std.specs.Prelude.{false}
-use Rattle.ps_core_memory.specs.Stores.{numbers}
+use Rattle.ps_core_laws.specs.Stores.{numbers}
 use Rattle.ps_table.proofs.joins.hand.Given as goal
 
 abbrev pub ghosts-hand_named : goal.ghosts-hand_named

@@ -1,7 +1,7 @@
 use Rattle.std.proofs.Common.{◌≡◌, ◌+◌, true, drop}
 use Rattle.ps_core_machine.specs.Steps.{table_size}
-use Rattle.ps_core_memory.specs.Shown.{VmRuns}
-use Rattle.ps_core_memory.specs.Stores.{numbers, MayStoreFields}
+use Rattle.ps_core_laws.specs.Shown.{VmRuns}
+use Rattle.ps_core_laws.specs.Stores.{numbers, MayStoreFields}
 use Rattle.ps_table.specs.Events.{did_all, field_stores}
 use Rattle.ps_table.proofs.writes.vm_fields.Given as goal
 

@@ -1,5 +1,5 @@
 use Rattle.std.proofs.Common.{◌≡◌, ◌+◌, ◌-◌, ◌≤◌, true}
-use Rattle.ps_core_memory.specs.Shown.{VmRuns}
+use Rattle.ps_core_laws.specs.Shown.{VmRuns}
 use Rattle.ps_table.proofs.Made.{Cleared}
 use Rattle.ps_table.proofs.writes.vm_object.Given as goal
 

@@ -11,5 +11,5 @@ returns-clause-run g c =
     ap (λ (s : Sight). s.failed) (c.run_plain_shown.ensures.still c.new-screen.ensures.watching)
     ∙ c.new-screen.ensures.failed in
     IfOk-weaker c.run_plain_shown.result _ _ (λ report made.
-    subst (λ (n : ℕ). IsRunOf g.S.Interpret.asks c.args.program.now n report) (made.2 going) made.3)
+    subst (λ (n : ℕ). IsRunOf g.S.Interpret.asks c.args.job.program.now n report) (made.2 going) made.3)
     c.run_plain_shown.ensures.run

@@ -32,30 +32,30 @@ new-requires g c = record { empty = nothing_stands _ _ c.plain_with_marks-memory
 
 pub into_run-requires-clause-within : goal.into_run-requires-clause-within
 into_run-requires-clause-within g c =
-    budget_least c.has_failed.result c.run-run.result.made c.args.config.steps
+    budget_least c.has_failed.result c.run-run.result.made c.args.job.config.steps
     c.budget_of-budget.result c.budget_of-budget.ensures c.run-run.ensures.within
 
 pub into_run-requires-clause-fewer : goal.into_run-requires-clause-fewer
 into_run-requires-clause-fewer g c =
-    budget_more c.has_failed.result c.run-run.result.made c.args.config.steps
+    budget_more c.has_failed.result c.run-run.result.made c.args.job.config.steps
     c.budget_of-budget.result c.budget_of-budget.ensures c.run-run.result.held
     (λ failed. c.run-run.ensures.cut (sym c.has_failed.ensures ∙ failed)) c.run-run.ensures.fewer
 
 pub into_run-requires-clause-ended : goal.into_run-requires-clause-ended
 into_run-requires-clause-ended g c = λ free.
-    budget_ends c.has_failed.result c.run-run.result.made c.args.config.steps
+    budget_ends c.has_failed.result c.run-run.result.made c.args.job.config.steps
     c.budget_of-budget.result c.budget_of-budget.ensures _
     (λ less going. c.run-run.ensures.ended free less (sym c.has_failed.ensures ∙ going))
 
 pub returns-clause-run : goal.returns-clause-run
 returns-clause-run g c = (
   c.budget_of-budget.result,
-  budget_most c.has_failed.result c.run-run.result.made c.args.config.steps
+  budget_most c.has_failed.result c.run-run.result.made c.args.job.config.steps
       c.budget_of-budget.result c.budget_of-budget.ensures c.run-run.ensures.within,
-  λ going. budget_whole c.has_failed.result c.run-run.result.made c.args.config.steps
+  λ going. budget_whole c.has_failed.result c.run-run.result.made c.args.job.config.steps
       c.budget_of-budget.result c.budget_of-budget.ensures (c.has_failed.ensures ∙ going),
   subst (λ (p : List ℕ). IsRunOf g.S.Interpret.asks p c.budget_of-budget.result
-      c.into_run.result) (c.run-run.ensures.program ∙ c.in-Ok.ensures.program)
+      c.into_run.result) (c.run-run.ensures.program ∙ c.in-Ok.ensures.program ∙ c.into_task.ensures.program)
       c.into_run.ensures.run,
 )
 
@@ -88,18 +88,18 @@ into_run-requires-clause-ordinary g c = c.run-run.ensures.ordinary
 
 -- the order of the turns
 ordered : (g : givens.Over) (c : After-run-run g)
-    → InOrder c.args.config.quantum (starting_world c.args.program.now)
+    → InOrder c.args.job.config.quantum (starting_world c.args.job.program.now)
     (moves c.run-run.new.self.schedule)
 unfolding moves
 ordered g c =
-    subst (λ (p : List ℕ). InOrder c.args.config.quantum (starting_world p)
-    (moves c.run-run.new.self.schedule)) c.in-Ok.ensures.program
+    subst (λ (p : List ℕ). InOrder c.args.job.config.quantum (starting_world p)
+    (moves c.run-run.new.self.schedule)) (c.in-Ok.ensures.program ∙ c.into_task.ensures.program)
     (c.run-run.ensures.order (ap moves c.in-Ok.ensures.schedule))
 
 pub returns-clause-order : goal.returns-clause-order
 returns-clause-order g c =
-    subst (λ (entries : List Entry). InOrder c.args.config.quantum
-    (starting_world c.args.program.now) (moves entries))
+    subst (λ (entries : List Entry). InOrder c.args.job.config.quantum
+    (starting_world c.args.job.program.now) (moves entries))
     (sym (ap (λ (kept : Kept). kept.items) c.into_run.ensures.schedule))
     (ordered g (goal.at.returns-clause-order g c).After-run-run)
 
@@ -112,15 +112,15 @@ returns-clause-starved g c = λ memory.
     (ap moves c.in-Ok.ensures.schedule) in
     let made = c.run-run.new.self in
     let same = ap (λ (kept : Kept). kept.items) c.into_run.ensures.schedule in
-    let program : made.program ≡ c.args.program.now =
-    c.run-run.ensures.program ∙ c.in-Ok.ensures.program in (
+    let program : made.program ≡ c.args.job.program.now =
+    c.run-run.ensures.program ∙ (c.in-Ok.ensures.program ∙ c.into_task.ensures.program) in (
       owed.0,
-      subst (λ (entries : List Entry). HasTurn c.args.config.quantum
-          (starting_world c.args.program.now) owed.0 (moves entries)) (sym same)
-          (subst (λ (p : List ℕ). HasTurn c.args.config.quantum (starting_world p) owed.0
-          (moves made.schedule)) c.in-Ok.ensures.program owed.1),
+      subst (λ (entries : List Entry). HasTurn c.args.job.config.quantum
+          (starting_world c.args.job.program.now) owed.0 (moves entries)) (sym same)
+          (subst (λ (p : List ℕ). HasTurn c.args.job.config.quantum (starting_world p) owed.0
+          (moves made.schedule)) (c.in-Ok.ensures.program ∙ c.into_task.ensures.program) owed.1),
       subst (λ (kept : Kept). IsStarved g.S.Interpret.asks true owed.0 false
-          (world c.args.program.now kept.items) kept) (sym c.into_run.ensures.schedule)
+          (world c.args.job.program.now kept.items) kept) (sym c.into_run.ensures.schedule)
           (subst (λ (p : List ℕ). IsStarved g.S.Interpret.asks true owed.0 false
           (world p made.schedule) (kept_of made)) program owed.2),
     )

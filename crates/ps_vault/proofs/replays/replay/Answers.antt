@@ -11,13 +11,13 @@ use Rattle.ps_vault.proofs.replays.replay.Goals.{After-replay_shown}
 
 followed : (g : givens.Over) (c : After-replay_shown g)
     → IfOk c.replay_shown.result
-    (IsReplayOf g.S.Interpret.asks c.args.program.now c.args.schedule.now)
+    (IsReplayOf g.S.Interpret.asks c.args.task.program.now c.args.schedule.now)
 followed g c =
     let going : c.replay_shown.new.screen.failed ≡ false =
     ap (λ (s : Sight). s.failed) (c.replay_shown.ensures.still c.new-screen.ensures.watching)
     ∙ c.new-screen.ensures.failed in
     IfOk-weaker c.replay_shown.result _ _ (λ report made.
-    subst (λ (part : List Entry). IsReplayOf g.S.Interpret.asks c.args.program.now part report)
+    subst (λ (part : List Entry). IsReplayOf g.S.Interpret.asks c.args.task.program.now part report)
     (made.3 going) made.4) c.replay_shown.ensures.run
 
 pub returns-clause-prints : goal.returns-clause-prints

@@ -101,7 +101,7 @@ loop-place-preserved g c =
       still = λ unseen. let before = c.loop-place.invariant.still unseen in
           c.follow_entry-made.ensures.still (ap (λ (s : Sight). s.watching) before ∙ unseen) ∙ before;
       shown = c.follow_entry-made.ensures.shown c.args.screen.now.seen c.loop-place.invariant.shown;
-      at = after_next c.args.program.now given i none _ lt
+      at = after_next c.args.task.program.now given i none _ lt
           (c.follow_entry-made.ensures.all all
           ∙ ap (λ (w : World). after_moves w (moves_of entry entry.steps))
           c.loop-place.invariant.at);
@@ -109,10 +109,10 @@ loop-place-preserved g c =
 
 -- the world at the end
 finished_world : (g : givens.Over) (c : After-report_of-2 g)
-    → world_at c.loop-place.vault ≡ world c.args.program.now
+    → world_at c.loop-place.vault ≡ world c.args.task.program.now
     c.report_of-2.result.schedule.items
 finished_world g c = c.loop-place.invariant.at
-    ∙ ap (world c.args.program.now)
+    ∙ ap (world c.args.task.program.now)
     (sym (ap (λ (v : _). v.items) c.report_of-2.ensures.schedule
     ∙ c.loop-place.invariant.followed))
 
@@ -131,13 +131,13 @@ stopped_moves g c =
 
 -- the world where memory ran out
 stopped_world : (g : givens.Over) (c : After-report_of g)
-    → world_at c.follow_entry-made.new.vault ≡ world c.args.program.now
+    → world_at c.follow_entry-made.new.vault ≡ world c.args.task.program.now
     c.report_of.result.schedule.items
 stopped_world g c =
     let given = c.args.schedule.now in
     let i = c.loop-place.place in
     let entry : Entry = get_or given i none in
-    after_part c.args.program.now (take i given) c.report_of.result.schedule.items
+    after_part c.args.task.program.now (take i given) c.report_of.result.schedule.items
     c.follow_entry-made.result entry.context (world_at c.loop-place.vault)
     (world_at c.follow_entry-made.new.vault)
     c.loop-place.invariant.at (c.follow_entry-made.ensures.part c.if-made-entry.true)
@@ -147,7 +147,7 @@ stopped_world g c =
 
 stopped_prints : (g : givens.Over) (c : After-report_of g)
     → c.report_of.result.printed.items
-    ≡ printed c.args.program.now c.report_of.result.schedule.items
+    ≡ printed c.args.task.program.now c.report_of.result.schedule.items
 unfolding printed
 stopped_prints g c =
     ap (λ (v : _). v.items) c.report_of.ensures.printed
@@ -180,13 +180,13 @@ uncollected g c = (c.report_of.ensures.flips, c.report_of.ensures.taken)
 -- where memory ran out, the next step of the given schedule may want some
 stopped_wants : (g : givens.Over) (c : After-report_of g)
     → c.follow_entry-made.new.screen.failed ≡ false
-    → MayWantNext g.S.Interpret.asks c.args.program.now c.args.schedule.now
+    → MayWantNext g.S.Interpret.asks c.args.task.program.now c.args.schedule.now
     c.report_of.result.schedule.items
 stopped_wants g c going =
     let entry : Entry = get_or c.args.schedule.now c.loop-place.place none in
     let made = c.report_of.result.schedule.items in
     let refused : Bool = entry.refused && (c.follow_entry-made.result + 1 == entry.steps) in
-    let after : World = world c.args.program.now made in
+    let after : World = world c.args.task.program.now made in
     let whose = context_behind_part c.args.schedule.now made c.loop-place.place
     c.follow_entry-made.result none c.loop-place-test.true c.if-made-entry.true
     (stopped_moves g c) in
@@ -209,7 +209,7 @@ returns-then-made-entry-clause-run g c =
     let known : is_memory c.report_of.result.outcome ≡ not c.follow_entry-made.new.screen.failed =
     ap is_memory told ∙ (c.cut_outcome-outcome.ensures.memory ∙ ap not c.has_failed.ensures) in
     by_failed c.follow_entry-made.new.screen.failed given
-    (λ part. IsReplayOf g.S.Interpret.asks c.args.program.now part c.report_of.result)
+    (λ part. IsReplayOf g.S.Interpret.asks c.args.task.program.now part c.report_of.result)
     (λ going. record {
       prints = stopped_prints g at;
       begins = stopped_begins g at;
@@ -218,8 +218,8 @@ returns-then-made-entry-clause-run g c =
       refused = λ _. fewer_with_part given made c.loop-place.place
           c.follow_entry-made.result none c.loop-place-test.true c.if-made-entry.true
           (stopped_moves g at);
-      ends = memory_ends (world c.args.program.now made) _ c.report_of.result.outcome
-          (known ∙ ap not going) (ready_not_over (world c.args.program.now made)
+      ends = memory_ends (world c.args.task.program.now made) _ c.report_of.result.outcome
+          (known ∙ ap not going) (ready_not_over (world c.args.task.program.now made)
           (next_identifier given made) (stopped_wants g at going).ready)
           (stopped_wants g at going);
       uncollected = uncollected g at;
@@ -228,9 +228,9 @@ returns-then-made-entry-clause-run g c =
       made,
       stopped_begins g at,
       stopped_cut g at,
-      replay_whole g.S.Interpret.asks c.args.program.now c.report_of.result (stopped_prints g at)
+      replay_whole g.S.Interpret.asks c.args.task.program.now c.report_of.result (stopped_prints g at)
           (known ∙ ap not failed)
-          (subst (EndsAs (world c.args.program.now made) true ⊥) (sym told)
+          (subst (EndsAs (world c.args.task.program.now made) true ⊥) (sym told)
           (subst (λ (w : World). EndsAs w true ⊥ c.cut_outcome-outcome.result)
           (stopped_world g at) (c.cut_outcome-outcome.ensures.ended
           (c.has_failed.ensures ∙ failed)))) (uncollected g at),
@@ -247,18 +247,18 @@ returns-then-made-entry-clause-shown g c =
 -- ---- behind one
 
 behind_world : (g : givens.Over) (c : After-report_of-then-has_failed g)
-    → world_at c.follow_entry-made.new.vault ≡ world c.args.program.now
+    → world_at c.follow_entry-made.new.vault ≡ world c.args.task.program.now
     c.report_of-then-has_failed.result.schedule.items
 behind_world g c =
     let given = c.args.schedule.now in
     let i = c.loop-place.place in
     let all : c.follow_entry-made.result ≡ (get_or given i none).steps =
     omega (arith, c.follow_entry-made.ensures.within, c.if-made-entry.false) in
-    after_next c.args.program.now given i none _ c.loop-place-test.true
+    after_next c.args.task.program.now given i none _ c.loop-place-test.true
     (c.follow_entry-made.ensures.all all
     ∙ ap (λ (w : World). after_moves w (moves_of (get_or given i none) (get_or given i none).steps))
     c.loop-place.invariant.at)
-    ∙ ap (world c.args.program.now) (sym (ap (λ (v : _). v.items) c.report_of-then-has_failed.ensures.schedule
+    ∙ ap (world c.args.task.program.now) (sym (ap (λ (v : _). v.items) c.report_of-then-has_failed.ensures.schedule
     ∙ followed_on g (goal.at.After-report_of-then-has_failed g c).After-push))
 
 pub returns-then-has_failed-clause-run : goal.returns-then-has_failed-clause-run
@@ -276,12 +276,12 @@ returns-then-has_failed-clause-run g c =
           (begins_first (c.loop-place.place + 1) given),
       subst (IsCutOf given) (sym is) (cut_first (c.loop-place.place + 1) given),
       λ going. absurd (true≢false (sym failed ∙ going)),
-      replay_whole g.S.Interpret.asks c.args.program.now c.report_of-then-has_failed.result
+      replay_whole g.S.Interpret.asks c.args.task.program.now c.report_of-then-has_failed.result
           (ap (λ (v : _). v.items) c.report_of-then-has_failed.ensures.printed
           ∙ (c.into_printed-then-has_failed.ensures.printed ∙ printed_at _ _ _
           (ap world_at c.outcome-outcome.ensures.same ∙ behind_world g at)))
           (ap is_memory c.report_of-then-has_failed.ensures.outcome ∙ c.outcome-outcome.ensures.known)
-          (subst (EndsAs (world c.args.program.now made) true ⊥)
+          (subst (EndsAs (world c.args.task.program.now made) true ⊥)
           (sym c.report_of-then-has_failed.ensures.outcome)
           (subst (λ (w : World). EndsAs w true ⊥ c.outcome-outcome.result)
           (behind_world g at) c.outcome-outcome.ensures.ends))
@@ -307,13 +307,13 @@ returns-clause-run g c =
     ∙ c.loop-place.invariant.followed
     ∙ take_all c.loop-place.place given (omega (arith, c.loop-place-test.false)) in
     whole_run c.loop-place.screen.failed given made
-    (λ part. IsReplayOf g.S.Interpret.asks c.args.program.now part c.report_of-2.result) is
-    (replay_whole g.S.Interpret.asks c.args.program.now c.report_of-2.result
+    (λ part. IsReplayOf g.S.Interpret.asks c.args.task.program.now part c.report_of-2.result) is
+    (replay_whole g.S.Interpret.asks c.args.task.program.now c.report_of-2.result
     (ap (λ (v : _). v.items) c.report_of-2.ensures.printed
     ∙ (c.into_printed-2.ensures.printed ∙ printed_at _ _ _
     (ap world_at c.outcome-outcome-2.ensures.same ∙ finished_world g at)))
     (ap is_memory c.report_of-2.ensures.outcome ∙ c.outcome-outcome-2.ensures.known)
-    (subst (EndsAs (world c.args.program.now made) true ⊥) (sym c.report_of-2.ensures.outcome)
+    (subst (EndsAs (world c.args.task.program.now made) true ⊥) (sym c.report_of-2.ensures.outcome)
     (subst (λ (w : World). EndsAs w true ⊥ c.outcome-outcome-2.result)
     (finished_world g at) c.outcome-outcome-2.ensures.ends))
     (c.report_of-2.ensures.flips, c.report_of-2.ensures.taken))

@@ -8,8 +8,8 @@ use Rattle.ps_vault.proofs.replays.replay_shown.Given as goal
 -- the entries so far were followed
 abbrev pub invariant-loop-place : goal.invariant-loop-place
 invariant-loop-place g l = record {
-  program : l.vault.program ≡ l.program;
-  most : l.vault.most.output ≡ l.fn.setup.output;
+  program : l.vault.program ≡ l.fn.task.program.now;
+  most : l.vault.most.output ≡ l.fn.task.setup.output;
   calling : l.vault.caller ≡ None;
   spare : length l.vault.schedule + 2 * (length l.schedule - l.place) + 1
       ≤ l.vault.capacity;
@@ -22,5 +22,5 @@ invariant-loop-place g l = record {
   going : l.screen.failed ≡ false;
   still : l.fn.screen.watching ≡ false → l.screen ≡ l.fn.screen;
   shown : HasShown l.fn.screen.seen l.screen (world_at l.vault).printed;
-  at : world_at l.vault ≡ world l.program (take l.place l.schedule);
+  at : world_at l.vault ≡ world l.fn.task.program.now (take l.place l.schedule);
 }

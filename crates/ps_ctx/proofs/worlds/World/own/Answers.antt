@@ -4,14 +4,14 @@ use Rattle.ps_ctx.proofs.worlds.World.own.Goals as goal
 
 pub finish-requires-clause-steady : goal.finish-requires-clause-steady
 finish-requires-clause-steady g c =
-    turned_is_steady g.S.Interpret.asks c.args.unwinding _ _ c.args.identifier c.args.trial
+    turned_is_steady g.S.Interpret.asks c.args.unwinding _ _ c.args.identifier c.args.attempt
     c.args.shown c.requires.steady c.requires.course c.turn_of.result
     (lends_desk c.args.identifier _ _ _ _ _ _ _ c.turn_of.ensures)
     c.in-Ok.turned c.in-Ok.is
 
 pub returns-in-Ok : goal.returns-in-Ok
 returns-in-Ok g c =
-    turned_finishes g.S.Interpret.asks c.args.unwinding _ _ c.args.identifier c.args.trial
+    turned_finishes g.S.Interpret.asks c.args.unwinding _ _ c.args.identifier c.args.attempt
     c.args.shown c.requires.steady c.requires.course c.turn_of.result
     (lends_desk c.args.identifier _ _ _ _ _ _ _ c.turn_of.ensures)
     c.in-Ok.turned c.in-Ok.is c.finish.result _ c.finish.ensures
@@ -19,7 +19,7 @@ returns-in-Ok g c =
 pub returns-in-Err : goal.returns-in-Err
 returns-in-Err g c =
     rw c.requires.calling
-    (unmade_steps g.S.Interpret.asks c.args.unwinding _ _ c.args.identifier c.args.trial
+    (unmade_steps g.S.Interpret.asks c.args.unwinding _ _ c.args.identifier c.args.attempt
     c.args.shown c.requires.steady c.requires.course c.turn_of.result
     (lends_desk c.args.identifier _ _ _ _ _ _ _ c.turn_of.ensures)
     g.met.S.Interpret.few c.in-Err.reason c.in-Err.is)

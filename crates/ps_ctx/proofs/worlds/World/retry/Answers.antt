@@ -18,7 +18,7 @@ call-requires-clause-steady g c =
 pub get_mut-member-requires-in-Err : goal.get_mut-member-requires-in-Err
 get_mut-member-requires-in-Err g c =
     back_some _ c.requires.steady.steady c.args.identifier c.get_mut-member.result.now
-    (sym c.get_mut-member.ensures.value) _ _ c.args.trial c.args.shown c.in-Err.reason
+    (sym c.get_mut-member.ensures.value) _ _ c.args.attempt c.args.shown c.in-Err.reason
     (rw c.in-Err.is at c.call.ensures)
 
 pub returns-in-Ok : goal.returns-in-Ok
@@ -28,7 +28,7 @@ returns-in-Ok g c = λ asks.
     (sym c.get_mut-member.ensures.value)
     (ap (λ (m : Member). m.course) (one_there _ c.args.identifier _ _
     (sym c.get_mut-member.ensures.value) c.requires.course.found) ∙ c.requires.course.is)
-    c.retried-operator.result c.retried-operator.ensures c.args.trial c.args.shown c.in-Ok.note _
+    c.retried-operator.result c.retried-operator.ensures c.args.attempt c.args.shown c.in-Ok.note _
     (rw c.in-Ok.is at c.call.ensures))
 
 pub returns-in-Err : goal.returns-in-Err
@@ -38,6 +38,6 @@ returns-in-Err g c = λ asks.
     (sym c.get_mut-member.ensures.value)
     (ap (λ (m : Member). m.course) (one_there _ c.args.identifier _ _
     (sym c.get_mut-member.ensures.value) c.requires.course.found) ∙ c.requires.course.is) c.retried-operator.result
-    c.retried-operator.ensures c.args.trial c.args.shown c.in-Err.reason _
+    c.retried-operator.ensures c.args.attempt c.args.shown c.in-Err.reason _
     (rw c.in-Err.is at c.call.ensures) c.get_mut-member-in-Err.result.now
     c.get_mut-member-in-Err.ensures.value)

@@ -24,7 +24,6 @@ pub returns-in_default-clause-makes : goal.returns-in_default-clause-makes
 returns-in_default-clause-makes g c =
     rw (
       c.settle.ensures.table,
-      c.settle.ensures.shared,
       c.settle.ensures.faulted,
       c.requires.calling,
     )
@@ -37,7 +36,6 @@ returns-in_default-clause-ended g c = λ none fewer.
     let so = lends_desk c.args.identifier _ _ _ _ _ _ _ c.run_of-framed.ensures.lends in
     rw (
       c.settle.ensures.table,
-      c.settle.ensures.shared,
       c.settle.ensures.faulted,
       c.requires.calling,
     )

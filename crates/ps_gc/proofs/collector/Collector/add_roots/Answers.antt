@@ -2,7 +2,7 @@ use Rattle.std.proofs.Common.{arith, ℕ, ◌++◌, [], get_or, take, refl, sym,
 use Rattle.std.proofs.lemmas.List.{take_all}
 use Rattle.ps_word.specs.declared.words.Word.{Word}
 use Rattle.ps_core_machine.specs.Objects.{values_have_replicas}
-use Rattle.ps_core_memory.specs.Stores.{number_of, numbers}
+use Rattle.ps_core_laws.specs.Stores.{number_of, numbers}
 use Rattle.ps_table.proofs.Flipping.{gc_all-append}
 use Rattle.ps_gc.specs.Events.{word_replicated}
 use Rattle.ps_table.specs.Events.{gc_did_all}

@@ -1,7 +1,7 @@
 use Rattle.std.proofs.Common.{◌≡◌, true, List, take, drop}
 use Rattle.ps_core_machine.specs.declared.events.Event.{Event}
 use Rattle.ps_core_machine.specs.Objects.{values_have_replicas}
-use Rattle.ps_core_memory.specs.Stores.{numbers}
+use Rattle.ps_core_laws.specs.Stores.{numbers}
 use Rattle.ps_table.specs.Events.{gc_did_all}
 use Rattle.ps_gc.specs.Events.{Adds, AreKnown}
 use Rattle.ps_gc.proofs.collector.Collector.add_roots.Given as goal

@@ -1,4 +1,4 @@
-use Rattle.std.proofs.Common.{arith, ◌≡◌, ◌+◌, ◌*◌, ◌%◌, ◌<◌, ℕ, List, [], ◌∷◌, false, length, suc, refl, Some, sym, ap}
+use Rattle.std.proofs.Common.{arith, ◌≡◌, ◌+◌, ◌*◌, ◌%◌, ◌<◌, ℕ, List, [], ◌∷◌, false, length, refl, Some, sym, ap}
 use Rattle.std.proofs.Common.{◌∙◌, subst, replicate}
 use Rattle.ps_word.specs.declared.words.Word.{Word}
 use Rattle.ps_core_machine.specs.declared.events.Event.{Event}
@@ -9,16 +9,16 @@ use Rattle.ps_core_machine.specs.declared.events.Vm.{Vm}
 use Rattle.ps_core_machine.specs.Objects.{pair_of}
 use Rattle.ps_core_machine.specs.Conditions.{VmMay, GcMay}
 use Rattle.ps_core_laws.proofs.HeapTests.{number_is}
-use Rattle.ps_core_memory.specs.Memory.{heap_of, grants_of}
-use Rattle.ps_core_memory.specs.Stores.{numbers}
-use Rattle.ps_core_flips.specs.Flips.{AfterFlip, replica_at, as_words}
-use Rattle.ps_core_flips.specs.Moves.{IsMovedTo, HaveReplicas, moved_words}
-use Rattle.ps_core_flips.proofs.Moved.{renamed-words, have-replicas}
+use Rattle.ps_core_laws.specs.Memory.{heap_of, grants_of}
+use Rattle.ps_core_laws.specs.Stores.{numbers}
+use Rattle.ps_core_laws.specs.Flips.{AfterFlip, replica_at, as_words}
+use Rattle.ps_core_laws.specs.Moves.{IsMovedTo, HaveReplicas, moved_words}
+use Rattle.ps_core_laws.proofs.Moved.{renamed-words, have-replicas}
 use Rattle.ps_table.specs.declared.plays.View.{View}
 use Rattle.ps_table.specs.Events.{OnlyLooks, root_looks}
 use Rattle.ps_table.proofs.Facts.{knows}
 use Rattle.ps_table.proofs.Kept.{keeps_vm}
-use Rattle.ps_core_flips.specs.Reached.{MovesReached}
+use Rattle.ps_core_laws.specs.Reached.{MovesReached}
 use Rattle.ps_gc.proofs.Reaching.{moves_reached}
 use Rattle.ps_gc.specs.Keeps.{Copies, CopiesAre, Takes}
 use Rattle.ps_gc.proofs.Flipping.{meets, flip_moves, flip_grants, as_they_are, flip_looks, copies_none, takes_turned}

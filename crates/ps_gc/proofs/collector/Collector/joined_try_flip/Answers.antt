@@ -1,12 +1,12 @@
 use Rattle.std.proofs.Common.{◌+◌, List, length, sym, ap, ◌∙◌, subst, arith}
 use Rattle.ps_mem.specs.Heap.{Heap}
-use Rattle.ps_core_memory.specs.Memory.{heap_of}
-use Rattle.ps_core_flips.specs.Collected.{IsExact}
+use Rattle.ps_core_laws.specs.Memory.{heap_of}
+use Rattle.ps_core_laws.specs.Collected.{IsExact}
 use Rattle.ps_core_machine.specs.declared.events.Event.{Event}
 use Rattle.ps_core_machine.specs.declared.events.Vm.{Vm}
 use Rattle.ps_core_machine.specs.declared.events.Gc.{Gc}
 use Rattle.ps_core_machine.specs.Objects.{among, addresses_named, values_have_replicas}
-use Rattle.ps_core_memory.specs.Stores.{numbers}
+use Rattle.ps_core_laws.specs.Stores.{numbers}
 use Rattle.ps_table.specs.Events.{OnlyLooks}
 use Rattle.ps_table.specs.Shown.{BothRun}
 use Rattle.ps_table.proofs.Looking.{more_looks, no_gc_look, no_looks, one_look}

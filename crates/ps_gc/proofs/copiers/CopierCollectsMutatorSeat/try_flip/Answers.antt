@@ -1,6 +1,6 @@
 use Rattle.std.proofs.Common.{ap, ◌∙◌}
 use Rattle.ps_core_machine.specs.Objects.{values_stand}
-use Rattle.ps_core_memory.specs.Stores.{numbers}
+use Rattle.ps_core_laws.specs.Stores.{numbers}
 use Rattle.ps_table.specs.declared.mutator.VmSeat.{VmSeat}
 use Rattle.ps_gc.proofs.Spaces.{values_name}
 use Rattle.ps_gc.proofs.copiers.CopierCollectsMutatorSeat.try_flip.Goals as goal

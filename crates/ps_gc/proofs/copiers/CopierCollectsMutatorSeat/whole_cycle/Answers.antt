@@ -1,6 +1,6 @@
 use Rattle.std.proofs.Common.{subst}
-use Rattle.ps_core_memory.specs.Memory.{heap_of}
-use Rattle.ps_core_flips.specs.Collected.{IsExact}
+use Rattle.ps_core_laws.specs.Memory.{heap_of}
+use Rattle.ps_core_laws.specs.Collected.{IsExact}
 use Rattle.ps_table.specs.declared.mutator.VmSeat.{VmSeat}
 use Rattle.ps_gc.proofs.copiers.CopierCollectsMutatorSeat.whole_cycle.Goals as goal
 

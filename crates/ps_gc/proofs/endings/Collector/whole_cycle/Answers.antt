@@ -1,8 +1,8 @@
 use Rattle.std.proofs.Common.{◌≡◌, sym, ap, ◌∙◌, subst}
 use Rattle.ps_core_machine.specs.declared.events.Vm.{Vm}
 use Rattle.ps_mem.specs.Heap.{Heap}
-use Rattle.ps_core_memory.specs.Memory.{heap_of}
-use Rattle.ps_core_flips.specs.Collected.{IsExact}
+use Rattle.ps_core_laws.specs.Memory.{heap_of}
+use Rattle.ps_core_laws.specs.Collected.{IsExact}
 use Rattle.ps_table.specs.Shown.{SeatState}
 use Rattle.ps_gc.proofs.endings.Collector.whole_cycle.Goals as goal
 

@@ -1,5 +1,5 @@
 use Rattle.std.proofs.Common.{ap}
-use Rattle.ps_core_memory.specs.Stores.{numbers}
+use Rattle.ps_core_laws.specs.Stores.{numbers}
 use Rattle.ps_gc.proofs.Flipping.{handed_knows, handed_known}
 use Rattle.ps_gc.proofs.flips.Collector.hand_over.Goals as goal
 

@@ -3,8 +3,8 @@ use Rattle.ps_core_machine.specs.declared.events.Vm.{Vm}
 use Rattle.ps_core_machine.specs.declared.events.Gc.{Gc}
 use Rattle.ps_core_machine.specs.Objects.{among, addresses_named}
 use Rattle.ps_mem.specs.Heap.{Heap}
-use Rattle.ps_core_memory.specs.Memory.{heap_of}
-use Rattle.ps_core_flips.specs.Collected.{IsExact}
+use Rattle.ps_core_laws.specs.Memory.{heap_of}
+use Rattle.ps_core_laws.specs.Collected.{IsExact}
 use Rattle.ps_table.specs.Shown.{SeatState}
 use Rattle.ps_gc.proofs.flips.Collector.try_flip.Goals as goal
 

@@ -1,5 +1,5 @@
 use Rattle.std.proofs.Common.{ap, ◌∙◌}
-use Rattle.ps_core_memory.specs.Memory.{heap_of, grants_of}
+use Rattle.ps_core_laws.specs.Memory.{heap_of, grants_of}
 use Rattle.ps_table.proofs.Kept.{keeps_vm, sits_on}
 use Rattle.ps_gc.proofs.space.CollectedSpaceCollectedMemory.work.Goals as goal
 

@@ -5,5 +5,5 @@ use Rattle.ps_ops.proofs.operators.OperatorsOperate.operate.Goals as goal
 
 pub returns-then-is_for_world : goal.returns-then-is_for_world
 returns-then-is_for_world g c =
-    left_on c.args.operator c.args.trial _ c.requires.good
+    left_on c.args.operator c.args.attempt _ c.requires.good
     (sym c.is_for_world.ensures ∙ c.if-is_for_world.true)

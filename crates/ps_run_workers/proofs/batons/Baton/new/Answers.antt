@@ -16,7 +16,8 @@ use Rattle.ps_run_workers.proofs.batons.Baton.new.Goals as goal
 pub invariant_of-result : goal.invariant_of-result
 unfolding moves
 invariant_of-result g c = record {
-  program = c.in-Ok.ensures.program ∙ ap (λ (s : Start). s.program) (sym c.requires.start);
+  program = c.in-Ok.ensures.program ∙ c.into_task.ensures.program
+      ∙ ap (λ (s : Start). s.program) (sym c.requires.start);
   config = ap (λ (s : Start). s.config) (sym c.requires.start);
   watched = subst (λ (s : Start). IsWatched s.sight (progress c.in-Ok.vault c.args.job.config 0
       c.args.job.config.steps c.args.screen None)) (sym c.requires.start) (record {
@@ -33,13 +34,13 @@ invariant_of-result g c = record {
   within = omega arith;
   fits = ap (λ (s : List Entry). all_fit (moves s)) c.in-Ok.ensures.schedule;
   most = λ i. record {
-    output = c.in-Ok.ensures.most i;
-    entries = (c.in-Ok.ensures.entries ∙ ap (λ (room : Room). room.most) c.of_run.ensures) i;
+    output = (c.in-Ok.ensures.most ∙ c.into_task.ensures.output) i;
+    entries = (c.in-Ok.ensures.entries ∙ ap (λ (room : Room). room.most) c.of_run-room.ensures) i;
   };
   space = c.in-Ok.ensures.space ∙ c.requires.sized;
   warranted = nothing_warranted _ _ _ c.in-Ok.ensures.schedule;
   flips = omega (arith, c.in-Ok.ensures.flips, c.requires.unmoved);
-  room = let first = ap (λ (room : Room). room.first) c.of_run.ensures in
+  room = let first = ap (λ (room : Room). room.first) c.of_run-room.ensures in
       omega (arith, c.in-Ok.ensures.room, first);
   waits = waits_none (progress c.in-Ok.vault c.args.job.config 0
       c.args.job.config.steps c.args.screen None)

@@ -7,15 +7,14 @@ returns-in-Ok g c = λ asks.
     rw (
       c.requires.calling,
       c.settle.ensures.context,
-      c.settle.ensures.shared,
       c.settle.ensures.course,
       c.settle.ensures.lines,
     )
-    (steps_undefined asks _ c.args.operator c.args.self.now.error_lines _ c.args.trial
+    (steps_undefined asks _ c.args.operator c.args.self.now.error_lines _ c.args.attempt
     (rw c.requires.calling at c.requires.steady) c.in-Ok.turned c.in-Ok.ensures)
 
 pub returns-in-Err : goal.returns-in-Err
 returns-in-Err g c = λ asks.
     rw c.requires.calling
-    (steps_waiting asks _ c.args.operator c.args.self.now.error_lines _ c.args.trial
+    (steps_waiting asks _ c.args.operator c.args.self.now.error_lines _ c.args.attempt
     (rw c.requires.calling at c.requires.steady) c.in-Err.reason c.in-Err.ensures)

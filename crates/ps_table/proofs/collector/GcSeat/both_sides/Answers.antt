@@ -1,6 +1,6 @@
 use Rattle.std.proofs.Common.{ap, ◌∙◌}
-use Rattle.ps_core_memory.specs.Memory.{heap_of}
-use Rattle.ps_core_memory.proofs.Room.{heap_start}
+use Rattle.ps_core_laws.specs.Memory.{heap_of}
+use Rattle.ps_core_laws.proofs.Room.{heap_start}
 use Rattle.ps_table.proofs.collector.GcSeat.both_sides.Goals as goal
 
 pub returns-clause-heap : goal.returns-clause-heap

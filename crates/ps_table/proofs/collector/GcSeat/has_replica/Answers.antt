@@ -9,7 +9,7 @@ use Rattle.ps_table.specs.Shown.{BothFind}
 use Rattle.ps_table.proofs.Facts.{vm_facts}
 use Rattle.ps_table.proofs.Seconds.{BothTell, both_tell, reference_stands, object_of, read_some, read_none, has_none}
 use Rattle.ps_table.proofs.Seconds.{has_as_told, has_unread}
-use Rattle.ps_core_memory.proofs.Loads.{stays, behind_heads}
+use Rattle.ps_core_laws.proofs.Loads.{stays, behind_heads}
 use Rattle.ps_table.proofs.Looking.{no_looks, one_look, no_gc_look}
 use Rattle.ps_table.proofs.collector.GcSeat.has_replica.Goals as goal
 

@@ -1,6 +1,6 @@
 use Rattle.std.proofs.Common.{sym, refl, ap, ◌∙◌, subst}
 use Rattle.ps_core_machine.specs.declared.events.Vm.{Vm}
-use Rattle.ps_core_memory.specs.Shown.{VmRuns}
+use Rattle.ps_core_laws.specs.Shown.{VmRuns}
 use Rattle.ps_table.proofs.Mirrored.{goes}
 use Rattle.ps_table.proofs.collector.GcSeat.look.Goals as goal
 

@@ -6,7 +6,7 @@ use Rattle.ps_word.specs.declared.words.Word.{Word}
 use Rattle.ps_core_machine.specs.declared.events.Gc.{Gc}
 use Rattle.ps_core_machine.specs.Objects.{renamed_value, value_has_replica, values_have_replicas}
 use Rattle.ps_core_laws.proofs.HeapTests.{and_parts}
-use Rattle.ps_core_memory.specs.Stores.{number_of, numbers}
+use Rattle.ps_core_laws.specs.Stores.{number_of, numbers}
 use Rattle.ps_table.specs.Events.{gc_did_all, root_look, root_looks}
 use Rattle.ps_table.proofs.Flipping.{gc_all-append}
 use Rattle.ps_table.proofs.collector.GcSeat.rename.Goals as goal

@@ -1,6 +1,6 @@
 use Rattle.std.proofs.Common.{◌≡◌, true, map, take, drop}
 use Rattle.ps_core_machine.specs.Objects.{renamed_value, values_have_replicas}
-use Rattle.ps_core_memory.specs.Stores.{numbers}
+use Rattle.ps_core_laws.specs.Stores.{numbers}
 use Rattle.ps_table.specs.Events.{gc_did_all, root_looks}
 use Rattle.ps_table.proofs.collector.GcSeat.rename.Given as goal
 

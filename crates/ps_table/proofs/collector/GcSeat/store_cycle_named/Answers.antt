@@ -5,8 +5,8 @@ use Rattle.ps_core_machine.specs.declared.events.Gc.{Gc}
 use Rattle.ps_core_machine.specs.Objects.{end_of_replicas}
 use Rattle.ps_core_machine.specs.Steps.{other_base, table_size, vm_after, gc_after}
 use Rattle.ps_core_machine.specs.Conditions.{VmMay}
-use Rattle.ps_core_memory.specs.Shown.{VmRuns}
-use Rattle.ps_core_memory.specs.Stores.{numbers}
+use Rattle.ps_core_laws.specs.Shown.{VmRuns}
+use Rattle.ps_core_laws.specs.Stores.{numbers}
 use Rattle.ps_table.specs.Events.{root_looks}
 use Rattle.ps_table.proofs.Facts.{vm_facts}
 use Rattle.ps_table.proofs.Flipping.{mirrors_flipped}

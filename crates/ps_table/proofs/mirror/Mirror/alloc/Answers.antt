@@ -1,7 +1,7 @@
 use Rattle.std.proofs.Common.{arith, ◌+◌, ℕ, sym, ap, ◌∙◌, subst}
 use Rattle.ps_mem.specs.Heap.{made, AfterNew, object_at}
 use Rattle.ps_core_machine.specs.declared.events.Vm.{Vm}
-use Rattle.ps_core_memory.specs.Memory.{heap_of, grants_of}
+use Rattle.ps_core_laws.specs.Memory.{heap_of, grants_of}
 use Rattle.ps_table.proofs.Made.{new_object}
 use Rattle.ps_table.proofs.mirror.Mirror.alloc.Goals as goal
 

@@ -2,9 +2,9 @@ use Rattle.std.proofs.Common.{arith, ◌+◌, ℕ, sym, ap, ◌∙◌, subst}
 use Rattle.ps_language.specs.declared.kinds.Kind.TheVariants.{Dictionary}
 use Rattle.ps_mem.specs.Heap.{made_body, AfterNew, object_at, birth_at}
 use Rattle.ps_core_machine.specs.declared.events.Vm.{Vm}
-use Rattle.ps_core_memory.specs.Memory.{heap_of, grants_of}
-use Rattle.ps_core_memory.proofs.Loads.{header_loads}
-use Rattle.ps_core_memory.specs.Stores.{part_made}
+use Rattle.ps_core_laws.specs.Memory.{heap_of, grants_of}
+use Rattle.ps_core_laws.proofs.Loads.{header_loads}
+use Rattle.ps_core_laws.specs.Stores.{part_made}
 use Rattle.ps_table.proofs.Facts.{vm_facts, words}
 use Rattle.ps_table.proofs.Kept.{keeps_on}
 use Rattle.ps_table.proofs.Made.{NewBody, new_body, kind_stands}

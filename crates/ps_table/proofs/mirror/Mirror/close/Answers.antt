@@ -2,8 +2,8 @@ use Rattle.std.proofs.Common.{◌≡◌, ◌+◌, ℕ, true, false, true≢false
 use Rattle.std.proofs.lemmas.List.{get_or_default}
 use Rattle.ps_core_machine.specs.Conditions.{HasRoom}
 use Rattle.ps_core_machine.specs.declared.events.Vm.{Vm}
-use Rattle.ps_core_memory.specs.Laws.{AfterClose, seen}
-use Rattle.ps_core_memory.specs.Memory.{grants_of}
+use Rattle.ps_core_laws.specs.MemoryLaws.{AfterClose, seen}
+use Rattle.ps_core_laws.specs.Memory.{grants_of}
 use Rattle.ps_table.proofs.Facts.{knows}
 use Rattle.ps_table.proofs.Full.{full_behind, full_left}
 use Rattle.ps_table.proofs.Kept.{keeps_on}

@@ -6,9 +6,9 @@ use Rattle.ps_core_machine.specs.declared.events.Vm.{Vm}
 use Rattle.ps_core_machine.specs.Conditions.{VmMay}
 use Rattle.ps_core_machine.specs.Objects.{log_of}
 use Rattle.ps_core_machine.specs.Steps.{table_size}
-use Rattle.ps_core_memory.specs.Laws.{CanCopy, words_copied}
-use Rattle.ps_core_memory.specs.Stores.{numbers}
-use Rattle.ps_core_memory.proofs.Copied.{copies}
+use Rattle.ps_core_laws.specs.MemoryLaws.{CanCopy, words_copied}
+use Rattle.ps_core_laws.specs.Stores.{numbers}
+use Rattle.ps_core_laws.proofs.Copied.{copies}
 use Rattle.ps_table.specs.Mirrored.{owes}
 use Rattle.ps_table.specs.Shown.{vm_did}
 use Rattle.ps_table.proofs.Facts.{vm_facts}

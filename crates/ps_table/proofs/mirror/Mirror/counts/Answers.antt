@@ -1,7 +1,7 @@
 use Rattle.std.proofs.Common.{◌+◌, ◌∷◌, length, take, sym, ap, ◌∙◌, arith}
 use Rattle.ps_core_machine.specs.declared.events.Event.TheVariants.{VmLoad}
-use Rattle.ps_core_memory.specs.Memory.{heap_of}
-use Rattle.ps_core_memory.proofs.Loads.{control_loads}
+use Rattle.ps_core_laws.specs.Memory.{heap_of}
+use Rattle.ps_core_laws.proofs.Loads.{control_loads}
 use Rattle.ps_table.specs.Events.{did_all, head_loads}
 use Rattle.ps_table.specs.Shown.{vm_did}
 use Rattle.ps_table.proofs.Counts.{one_more_head, all_heads, flips_found}

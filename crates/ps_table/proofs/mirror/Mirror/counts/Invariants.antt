@@ -1,6 +1,6 @@
 use Rattle.std.proofs.Common.{◌≡◌, ◌∷◌, take}
 use Rattle.ps_core_machine.specs.declared.events.Event.TheVariants.{VmLoad}
-use Rattle.ps_core_memory.specs.Memory.{heap_of}
+use Rattle.ps_core_laws.specs.Memory.{heap_of}
 use Rattle.ps_table.specs.Events.{did_all, head_loads}
 use Rattle.ps_table.specs.Mirrored.{Sits}
 use Rattle.ps_table.proofs.mirror.Mirror.counts.Given as goal

@@ -1,10 +1,10 @@
 use Rattle.std.proofs.Common.{◌∷◌, [], ap, ◌∙◌, refl}
 use Rattle.ps_core_machine.specs.declared.events.Event.TheVariants.{FieldStore}
 use Rattle.ps_core_machine.specs.Steps.{field_stored}
-use Rattle.ps_core_memory.specs.Laws.{CanFill}
-use Rattle.ps_core_memory.specs.Memory.{heap_of}
-use Rattle.ps_core_memory.proofs.Stored.{fills}
-use Rattle.ps_core_memory.proofs.Written.{new_same}
+use Rattle.ps_core_laws.specs.MemoryLaws.{CanFill}
+use Rattle.ps_core_laws.specs.Memory.{heap_of}
+use Rattle.ps_core_laws.proofs.Stored.{fills}
+use Rattle.ps_core_laws.proofs.Written.{new_same}
 use Rattle.ps_table.proofs.Facts.{vm_facts}
 use Rattle.ps_table.proofs.Kept.{keeps_by}
 use Rattle.ps_table.proofs.Mirrored.{goes_by, mirrors_new}

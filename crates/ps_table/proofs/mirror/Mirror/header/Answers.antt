@@ -2,9 +2,9 @@ use Rattle.std.proofs.Common.{◌≡◌, sym, subst}
 use Rattle.std.specs.Prelude.{IfSome}
 use Rattle.ps_word.specs.declared.headers.Header.{Header}
 use Rattle.ps_mem.specs.Heap as memory
-use Rattle.ps_core_memory.specs.Laws.{header_told}
-use Rattle.ps_core_memory.specs.Memory.{heap_of}
-use Rattle.ps_core_memory.proofs.Loads.{header_loads}
+use Rattle.ps_core_laws.specs.MemoryLaws.{header_told}
+use Rattle.ps_core_laws.specs.Memory.{heap_of}
+use Rattle.ps_core_laws.proofs.Loads.{header_loads}
 use Rattle.ps_table.proofs.Facts.{vm_facts, words}
 use Rattle.ps_table.proofs.mirror.Mirror.header.Goals as goal
 

@@ -1,6 +1,6 @@
 use Rattle.std.proofs.Common.{arith, ◌≡◌, ℕ, List, ap}
 use Rattle.std.specs.Prelude.{slice_index}
-use Rattle.ps_core_memory.proofs.Cycles.{grants}
+use Rattle.ps_core_laws.proofs.Cycles.{grants}
 use Rattle.ps_table.proofs.Facts.{few_logged, knows}
 use Rattle.ps_table.proofs.mirror.Mirror.left.Goals as goal
 

@@ -1,5 +1,5 @@
 use Rattle.std.proofs.Common.{◌≡◌, ◌+◌, ◌-◌, arith}
-use Rattle.ps_core_memory.proofs.Loads.{field_loads}
+use Rattle.ps_core_laws.proofs.Loads.{field_loads}
 use Rattle.ps_table.proofs.Facts.{vm_facts, words}
 use Rattle.ps_table.proofs.mirror.Mirror.load_at.Goals as goal
 

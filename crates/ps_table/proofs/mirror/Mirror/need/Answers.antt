@@ -1,7 +1,7 @@
 use Rattle.std.proofs.Common.{arith, ◌≡◌, true, false, nat_le, sym, ◌∙◌}
 use Rattle.ps_core_laws.proofs.HeapTests.{le_true, le_is, and_parts}
-use Rattle.ps_core_memory.specs.Memory.{grants_of}
-use Rattle.ps_core_memory.proofs.Stored.{rooms}
+use Rattle.ps_core_laws.specs.Memory.{grants_of}
+use Rattle.ps_core_laws.proofs.Stored.{rooms}
 use Rattle.ps_table.proofs.Facts.{vm_facts}
 use Rattle.ps_table.proofs.mirror.Mirror.need.Goals as goal
 

@@ -3,9 +3,9 @@ use Rattle.std.specs.Prelude.{replicate}
 use Rattle.ps_core_machine.specs.declared.events.Event.TheVariants.{EpochStore}
 use Rattle.ps_core_machine.specs.declared.events.Vm.{Vm}
 use Rattle.ps_core_machine.specs.Steps.{is_open, vm_after}
-use Rattle.ps_core_memory.specs.Memory.{grants_of}
-use Rattle.ps_core_memory.specs.Laws.{AfterOpen}
-use Rattle.ps_core_memory.proofs.Cycles.{opens}
+use Rattle.ps_core_laws.specs.Memory.{grants_of}
+use Rattle.ps_core_laws.specs.MemoryLaws.{AfterOpen}
+use Rattle.ps_core_laws.proofs.Cycles.{opens}
 use Rattle.ps_table.proofs.Facts.{knows, vm_facts}
 use Rattle.ps_table.proofs.Kept.{keeps_by}
 use Rattle.ps_table.proofs.Mirrored.{goes_by, mirrors_opened}

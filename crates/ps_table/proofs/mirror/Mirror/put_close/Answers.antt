@@ -4,9 +4,9 @@ use Rattle.ps_record.specs.declared.Record.TheVariants.{Close}
 use Rattle.ps_core_machine.specs.declared.events.Event.TheVariants.{RecordStore}
 use Rattle.ps_core_machine.specs.declared.events.Vm.{Vm}
 use Rattle.ps_core_machine.specs.Steps.{vm_after}
-use Rattle.ps_core_memory.specs.Memory.{grants_of}
-use Rattle.ps_core_memory.specs.Laws.{AfterClose}
-use Rattle.ps_core_memory.proofs.Cycles.{closes_logs}
+use Rattle.ps_core_laws.specs.Memory.{grants_of}
+use Rattle.ps_core_laws.specs.MemoryLaws.{AfterClose}
+use Rattle.ps_core_laws.proofs.Cycles.{closes_logs}
 use Rattle.ps_table.proofs.Facts.{few_logged, knows, vm_facts}
 use Rattle.ps_table.proofs.Kept.{keeps_by}
 use Rattle.ps_table.proofs.Mirrored.{goes_by, mirrors_closed}

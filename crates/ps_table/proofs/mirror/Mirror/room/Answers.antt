@@ -1,6 +1,6 @@
 use Rattle.std.proofs.Common.{arith, ◌≡◌, ◌-◌, ◌^◌, ◌&&◌, Bool, true, false, ℕ, sym, ap, ◌∙◌, nat_le, inl, inr}
 use Rattle.ps_core_laws.proofs.HeapTests.{le_true, le_is, bool_cases}
-use Rattle.ps_core_memory.proofs.Room.{room_answer}
+use Rattle.ps_core_laws.proofs.Room.{room_answer}
 use Rattle.ps_table.proofs.Facts.{vm_facts}
 use Rattle.ps_table.proofs.mirror.Mirror.room.Goals as goal
 

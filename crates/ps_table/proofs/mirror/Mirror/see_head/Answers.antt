@@ -2,9 +2,9 @@ use Rattle.std.proofs.Common.{ℕ, ◌+◌, refl, ap, subst}
 use Rattle.std.specs.Prelude.{slice_set}
 use Rattle.ps_core_machine.specs.declared.events.Event.TheVariants.{VmLoad}
 use Rattle.ps_core_laws.proofs.KeptFacts.{kept}
-use Rattle.ps_core_memory.proofs.Cycles.{sees_heads}
-use Rattle.ps_core_memory.proofs.Facts.{head_found}
-use Rattle.ps_core_memory.proofs.Room.{part_seen}
+use Rattle.ps_core_laws.proofs.Cycles.{sees_heads}
+use Rattle.ps_core_laws.proofs.Facts.{head_found}
+use Rattle.ps_core_laws.proofs.Room.{part_seen}
 use Rattle.ps_table.specs.Shown.{BothFind}
 use Rattle.ps_table.proofs.Facts.{vm_facts, words, taken}
 use Rattle.ps_table.proofs.Kept.{keeps_by}

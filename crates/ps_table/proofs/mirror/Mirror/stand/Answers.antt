@@ -1,5 +1,5 @@
 use Rattle.std.proofs.Common.{ℕ, ◌+◌, refl, ap, ◌∙◌, arith}
-use Rattle.ps_core_memory.specs.Stores.{part_made}
+use Rattle.ps_core_laws.specs.Stores.{part_made}
 use Rattle.ps_table.specs.Events.{did_all, object_made}
 use Rattle.ps_table.proofs.Facts.{vm_facts}
 use Rattle.ps_table.proofs.Kept.{keeps_all}

@@ -3,8 +3,8 @@ use Rattle.ps_record.specs.declared.Record.TheVariants.{Place}
 use Rattle.ps_core_machine.specs.declared.events.Event.TheVariants.{RecordStore}
 use Rattle.ps_core_machine.specs.declared.events.Vm.{Vm}
 use Rattle.ps_core_machine.specs.Steps.{table_size}
-use Rattle.ps_core_memory.specs.Laws.{CanStore}
-use Rattle.ps_core_memory.specs.Stores.{numbers}
+use Rattle.ps_core_laws.specs.MemoryLaws.{CanStore}
+use Rattle.ps_core_laws.specs.Stores.{numbers}
 use Rattle.ps_table.specs.Events.{field_stores}
 use Rattle.ps_table.specs.Mirrored.{owes}
 use Rattle.ps_table.proofs.Kept.{keeps_on, keeps_all, keeps_owed}

@@ -1,5 +1,5 @@
 use Rattle.std.proofs.Common.{arith}
-use Rattle.ps_core_memory.proofs.Counted.{counted}
+use Rattle.ps_core_laws.proofs.Counted.{counted}
 use Rattle.ps_table.proofs.Addressed.{addressed}
 use Rattle.ps_table.proofs.Facts.{knows, vm_facts}
 use Rattle.ps_table.proofs.mirror.Mirror.used.Goals as goal

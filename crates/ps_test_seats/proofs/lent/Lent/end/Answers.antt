@@ -1,5 +1,5 @@
 use Rattle.std.proofs.Common.{arith}
-use Rattle.ps_core_memory.specs.Memory.{heap_of}
+use Rattle.ps_core_laws.specs.Memory.{heap_of}
 use Rattle.ps_test_seats.proofs.Ready.{perhaps_ready}
 use Rattle.ps_test_seats.proofs.lent.Lent.end.Goals as goal
 

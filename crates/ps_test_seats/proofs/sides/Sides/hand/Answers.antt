@@ -2,7 +2,7 @@ use Rattle.std.proofs.Common.{sym, ap, subst, ◌∙◌}
 use Rattle.std.specs.Result.{is_ok}
 use Rattle.ps_mem.specs.Heap.{Grants}
 use Rattle.ps_mem.specs.Shows.{AreValues}
-use Rattle.ps_core_memory.specs.Memory.{heap_of}
+use Rattle.ps_core_laws.specs.Memory.{heap_of}
 use Rattle.ps_gc.proofs.Spaces.{values_name}
 use Rattle.ps_gc.specs.Known.{are_known}
 use Rattle.ps_gc.proofs.Sides.{all_known, known_put}

@@ -1,6 +1,6 @@
 -- Nothing stands at new seats.
 use Rattle.std.proofs.Common.{ap, ◌∙◌}
-use Rattle.ps_core_memory.specs.Memory.{heap_of}
+use Rattle.ps_core_laws.specs.Memory.{heap_of}
 use Rattle.ps_vault.proofs.Beginning.{nothing_stands}
 use Rattle.ps_test_seats.proofs.sides.Sides.new.Goals as goal
 

@@ -1,5 +1,5 @@
 use Rattle.std.proofs.Common.{sym, subst}
-use Rattle.ps_core_memory.specs.Stores.{numbers}
+use Rattle.ps_core_laws.specs.Stores.{numbers}
 use Rattle.ps_gc.specs.Events.{AreKnown}
 use Rattle.ps_test_seats.proofs.Known.{known_all}
 use Rattle.ps_test_seats.proofs.sides.Sides.replicate_all.Goals as goal

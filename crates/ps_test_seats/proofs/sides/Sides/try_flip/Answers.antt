@@ -1,6 +1,6 @@
 use Rattle.std.proofs.Common.{arith, ap, sym, subst}
 use Rattle.ps_mem.specs.Shows.{AreValues, IsReady}
-use Rattle.ps_core_memory.specs.Memory.{heap_of}
+use Rattle.ps_core_laws.specs.Memory.{heap_of}
 use Rattle.ps_gc.proofs.Spaces.{values_name}
 use Rattle.ps_test_seats.proofs.Ready.{same_ready, tried_ready}
 use Rattle.ps_test_seats.proofs.sides.Sides.try_flip.Goals as goal

@@ -40,7 +40,7 @@ go_on-made-requires-clause-there g c =
 
 -- the context was ready before them
 ready_before : (g : givens.Over) (c : After-go_on-made g)
-    → is_ready (world c.self.inside.world.contexts.shared.program.now
+    → is_ready (world c.self.inside.runtime.shared.program.now
     c.self.inside.schedule.items) c.args.context ≡ true
 ready_before g c =
     ap (λ (s : Story). is_ready (world_at s) c.args.context) c.self.view_is ∙ c.requires.ready
@@ -82,7 +82,7 @@ takes g c =
 -- what holds of the program and the schedule inside
 of_story : (g : givens.Over) (c : After-note_turn g)
     → (holds : List ℕ → List Entry → Type 0)
-    → holds c.self.inside.world.contexts.shared.program.now c.self.inside.schedule.items
+    → holds c.self.inside.runtime.shared.program.now c.self.inside.schedule.items
     → holds c.args.self.now.program c.args.self.now.schedule
 of_story g c holds inside =
     subst (λ (s : Story). holds s.program s.schedule) c.self.view_is inside
@@ -90,15 +90,15 @@ of_story g c holds inside =
 -- who alone is left was so inside
 only_inside : (g : givens.Over) (c : After-note_turn g)
     → IsOnlyLeft (world_at c.args.self.now) c.args.context
-    → IsOnlyLeft (world c.self.inside.world.contexts.shared.program.now
+    → IsOnlyLeft (world c.self.inside.runtime.shared.program.now
     c.self.inside.schedule.items) c.args.context
 only_inside g c left =
     subst (λ (s : Story). IsOnlyLeft (world_at s) c.args.context) (sym c.self.view_is) left
 
 -- what was shown before is of the space inside
 warranted_inside : (g : givens.Over) (c : After-note_turn g) → AreWarranted c.args.self.now
-    → AllWarranted (g.M.Memory.heap c.self.inside.memory).space.size
-    c.self.inside.world.contexts.shared.program.now c.self.inside.schedule.items
+    → AllWarranted (g.M.Memory.heap c.self.inside.runtime.memory).space.size
+    c.self.inside.runtime.shared.program.now c.self.inside.schedule.items
 warranted_inside g c all = subst AreWarranted (sym c.self.view_is) all
 
 -- ---- nothing is told
@@ -180,7 +180,7 @@ pub returns-in_default-clause-shown : goal.returns-in_default-clause-shown
 returns-in_default-clause-shown g c = λ some.
     of_story g (goal.at.returns-in_default-clause-shown g c).After-note_turn
     (λ p entries. AddsShown c.args.context c.go_on-made.result.made
-    (shown_words (g.M.Memory.heap c.go_on-made.new.memory)) (moves entries)
+    (shown_words (g.M.Memory.heap c.go_on-made.new.runtime.memory)) (moves entries)
     (moves c.note_turn.new.self.items))
     (rw c.note_turn.ensures.added
     (last_made c.args.context c.go_on-made.result.made _ _ c.self.inside.schedule.items
@@ -301,7 +301,7 @@ pub returns-in-Err-clause-shown : goal.returns-in-Err-clause-shown
 returns-in-Err-clause-shown g c = λ some.
     of_story g (goal.at.returns-in-Err-clause-shown g c).After-note_turn
     (λ p entries. AddsShown c.args.context c.go_on-made.result.made
-    (shown_words (g.M.Memory.heap c.go_on-made.new.memory)) (moves entries)
+    (shown_words (g.M.Memory.heap c.go_on-made.new.runtime.memory)) (moves entries)
     (moves c.note_turn.new.self.items))
     (rw c.note_turn.ensures.added
     (last_mid g.S.Interpret.asks c.args.context c.slot_of.result c.go_on-made.result.made
@@ -396,7 +396,7 @@ pub returns-clause-shown : goal.returns-clause-shown
 returns-clause-shown g c = λ some.
     of_story g (goal.at.returns-clause-shown g c).After-note_turn
     (λ p entries. AddsShown c.args.context (c.go_on-made.result.made + 1)
-    (shown_words (g.M.Memory.heap c.go_on-made.new.memory)) (moves entries)
+    (shown_words (g.M.Memory.heap c.go_on-made.new.runtime.memory)) (moves entries)
     (moves c.note.new.self.items))
     (rw (c.note.ensures.added, c.note_turn.ensures.added)
     (shown_behind g.S.Interpret.asks c.args.context c.slot_of.result c.go_on-made.result.made
@@ -433,7 +433,7 @@ returns-clause-takes g c =
 
 pub returns-clause-ends : goal.returns-clause-ends
 returns-clause-ends g c = λ ends.
-    let program : c.self.inside.world.contexts.shared.program.now ≡ c.args.self.now.program =
+    let program : c.self.inside.runtime.shared.program.now ≡ c.args.self.now.program =
     ap (λ (s : Story). s.program) c.self.view_is in
     rw (c.note.ensures.added, c.note_turn.ensures.added, ← program)
     (ends_behind g.S.Interpret.asks c.args.context c.slot_of.result c.go_on-made.result.made

@@ -23,7 +23,7 @@ step-told-requires-clause-there g c =
 
 pub invariant_of-self : goal.invariant_of-self
 invariant_of-self g c =
-    let ready : is_ready (world c.self.inside.world.contexts.shared.program.now
+    let ready : is_ready (world c.self.inside.runtime.shared.program.now
     c.self.inside.schedule.items) c.args.context ≡ true =
     ap (λ (s : Story). is_ready (world_at s) c.args.context) c.self.view_is ∙ c.requires.ready in
     rw c.note.ensures.added
@@ -33,7 +33,7 @@ invariant_of-self g c =
 pub returns-in-Ok-clause-world : goal.returns-in-Ok-clause-world
 returns-in-Ok-clause-world g c =
     rw (c.step-told.ensures.program, c.note.ensures.added)
-    (world_added c.self.inside.world.contexts.shared.program.now c.self.inside.schedule.items
+    (world_added c.self.inside.runtime.shared.program.now c.self.inside.schedule.items
     (move_of c.args.context c.args.refused c.args.shown)
     ∙ ap (λ (s : Story). after_move (world_at s)
     (move_of c.args.context c.args.refused c.args.shown)) c.self.view_is)

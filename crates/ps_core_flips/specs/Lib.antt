@@ -1,4 +1,0 @@
-pub mod Flips
-pub mod Moves
-pub mod Collected
-pub mod Reached

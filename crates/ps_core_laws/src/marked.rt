@@ -1,0 +1,57 @@
+//! A memory with marks whose objects a collector moves.
+//!
+//! Marks go by birth numbers, which objects keep where they move: what covers a memory covers it
+//! behind a flip. So no call here changes a mark.
+
+ghost use Rattle.std.specs.Prelude.{◌≡◌};
+
+use crate::Closing;
+use crate::collected::{CollectedMemory, Counts};
+use crate::sides::{Collects, LoggedMemory, Past};
+use ps_mem::Slot;
+use ps_mem::marked::Marked;
+use ps_word::words::Word;
+
+impl<M: LoggedMemory + Drop> LoggedMemory for Marked<M> {
+    fn is_open(&mut self) -> bool {
+        self.memory.is_open()
+    }
+
+    fn open_cycle(&mut self) -> bool {
+        self.memory.open_cycle()
+    }
+
+    fn close_log(&mut self, slot: Slot) -> Closing {
+        self.memory.close_log(slot)
+    }
+
+    fn counts(&mut self) -> Counts {
+        self.memory.counts()
+    }
+
+    ghost bounded = { λ m. M.bounded m.memory };
+}
+
+impl<M: CollectedMemory + Drop> CollectedMemory for Marked<M> {
+    fn work(&mut self, actions: u32) -> bool {
+        self.memory.work(actions)
+    }
+}
+
+impl<M: LoggedMemory + Drop, C: Collects<M>> Collects<Marked<M>> for Past<C> {
+    fn hand_over(&mut self, memory: &mut Marked<M>, roots: &[Word]) {
+        self.0.hand_over(&mut memory.memory, roots);
+    }
+
+    fn try_flip(&mut self, memory: &mut Marked<M>, roots: &mut [Word]) -> bool {
+        self.0.try_flip(&mut memory.memory, roots)
+    }
+
+    fn whole_cycle(&mut self, memory: &mut Marked<M>, roots: &mut [Word]) -> bool {
+        self.0.whole_cycle(&mut memory.memory, roots)
+    }
+
+    fn end_cycle(&mut self, memory: &mut Marked<M>, roots: &mut [Word]) -> bool {
+        self.0.end_cycle(&mut memory.memory, roots)
+    }
+}

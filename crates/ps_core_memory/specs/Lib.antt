@@ -1,5 +1,0 @@
-pub mod Flips
-pub mod Laws
-pub mod Memory
-pub mod Shown
-pub mod Stores
