@@ -18,7 +18,7 @@ use outputs::{Patient, TerminalLine};
 use ps_ctx::makers::Makers;
 use ps_ctx_operators::operators::WorldOperators;
 use ps_ops::operators::Operators;
-use ps_run::{ErrorOutput, Flushed, System, drive, refuse_no_text};
+use ps_run::{ErrorOutput, Flushed, Outside, System, drive, refuse_no_text};
 use ps_step::steps::Steps;
 use std::hash::RandomState;
 use std::process::ExitCode;
@@ -39,12 +39,12 @@ fn run<R: Threads + Wait + Sync>(rt: &HostRuntime, workers: &R) -> io::Result<u8
     };
     let arguments: Vec<String> = given.skip(1).collect(alloc)?;
     let words: Vec<&str> = arguments.iter().map(|word| word.as_str()).collect(alloc)?;
-    let mut files = SystemFiles::new(rt);
+    let mut outside = Outside {
+        files: SystemFiles::new(rt),
+        err,
+    };
     let makers = Makers {
-        steps: Steps {
-            operators: Operators,
-            text: Vec::new(alloc),
-        },
+        steps: Steps::<Operators>::new(alloc),
         operators: WorldOperators { alloc },
     };
     let system = System {
@@ -56,9 +56,8 @@ fn run<R: Threads + Wait + Sync>(rt: &HostRuntime, workers: &R) -> io::Result<u8
         system,
         makers,
         words.as_slice(),
-        &mut files,
         Flushed::new(Patient::new(rt, rt.stdout())),
-        &mut err,
+        &mut outside,
     );
     Ok(status)
 }

@@ -2,7 +2,7 @@
 use Rattle.std.proofs.Common.{◌≡◌, ℕ, ℤ, Bool, true, Option, Some, None, Ok, Err, refl, sym, ap, subst, ◌∙◌, List}
 use Rattle.std.specs.Prelude.{IsSome, if◌then◌else◌}
 use Rattle.std.specs.Option.{option_map_or}
-use Rattle.ps_language.specs.declared.operators.Operator.{Operator}
+use Rattle.ps_step_outcome.specs.declared.world_operators.WorldOperator.{WorldOperator}
 use Rattle.ps_language.specs.Contexts.{context_at, with_context}
 use Rattle.ps_language.specs.Effect.{Around, Scene, Calling as CallingOf}
 use Rattle.ps_language.specs.Locks.{is_ready, retried}
@@ -96,7 +96,7 @@ module _ (d : Desk) (steady : IsSteady d) (identifier : ℕ) (member : Member)
         running_machine (none_left member.is_detached running_machine.context)
 
   -- it is still there where the call was not made
-  pub back_some : (operator : Operator) (new : Desk) (attempt : Attempt) (shown : Option (ℤ × ℤ))
+  pub back_some : (operator : WorldOperator) (new : Desk) (attempt : Attempt) (shown : Option (ℤ × ℤ))
       (reason : Reason) → Calls operator identifier attempt shown (Err reason)
       (desk_with d identifier (in_course Running member)) new → IsSome (item_at new.members identifier)
   back_some operator new attempt shown reason calls = subst IsSome (sym calls.unmade.0.found) refl
@@ -104,7 +104,7 @@ module _ (d : Desk) (steady : IsSteady d) (identifier : ℕ) (member : Member)
 module _ (asks : Status → Around → Scene → Asked) (d : Desk)
     (steady : IsSteadyHeld (held d None)) (identifier : ℕ) (member : Member)
     (found : item_at d.members identifier ≡ Some member) (is : member.course ≡ Again)
-    (operator : Operator)
+    (operator : WorldOperator)
     (tries : (h : Heap) (names : List (List ℕ))
     → calling_of operator ≡ retried (values_in h names member.context.operands))
     (attempt : Attempt) (shown : Option (ℤ × ℤ)) where

@@ -1,7 +1,7 @@
 -- The turn of one context, among all of them.
 use Rattle.std.proofs.Common.{◌≡◌, ℕ, ℤ, Bool, true, List, [], ◌∷◌, Option, Some, None, Ok, Err, refl, sym, ap, subst}
 use Rattle.std.proofs.Common.{◌∙◌}
-use Rattle.ps_language.specs.declared.operators.Operator.{Operator}
+use Rattle.ps_step_outcome.specs.declared.world_operators.WorldOperator.{WorldOperator}
 use Rattle.ps_language.specs.Effect.{Around, Scene}
 use Rattle.ps_language.specs.Machines.{may_end, leaves_to_world, own_step}
 use Rattle.ps_language.specs.Machines as machines
@@ -160,7 +160,7 @@ module _ (asks : Status → Around → Scene → Asked) (unwinding : Option Caus
         (own_turn unwinding) attempt new turned made w at)
 
   -- an operator is left to the world
-  module _ (operator : Operator)
+  module _ (operator : WorldOperator)
       (made : Turns (asks_in asks unwinding) (own_turn unwinding) attempt (Ok (Calls operator)) old
       new) where
     module _ (w : World) (at : IsWorld d w) where

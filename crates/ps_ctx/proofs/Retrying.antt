@@ -1,7 +1,7 @@
 -- What is tried again, and the step that tries it.
 use Rattle.std.proofs.Common.{◌≡◌, ℕ, List, [], ◌∷◌, Some, None, refl, sym, ap, ◌∙◌}
-use Rattle.ps_language.specs.declared.operators.Operator.{Operator}
-use Rattle.ps_language.specs.declared.operators.Operator.TheVariants.{Join, Monitor}
+use Rattle.ps_step_outcome.specs.declared.world_operators.WorldOperator.{WorldOperator}
+use Rattle.ps_step_outcome.specs.declared.world_operators.WorldOperator.TheVariants.{Join, Monitor}
 use Rattle.ps_language.specs.Locks.{retried}
 use Rattle.ps_word.specs.declared.words.Word.{Word}
 use Rattle.ps_word.specs.declared.values.Content.{Content}
@@ -21,7 +21,7 @@ unfolding retried
 tries_none h names [] none = refl
 tries_none h names (top ∷ rest) none = absurd (cc)
 
-abbrev is_integer : Content → Operator
+abbrev is_integer : Content → WorldOperator
 is_integer (contents.Integer number) = Join
 is_integer content = Monitor
 

@@ -1,7 +1,7 @@
 -- A step by the turn of one context, over the table.
 use Rattle.std.proofs.Common.{◌≡◌, ℕ, ℤ, Bool, Option, Some, None, Ok, Err, refl, sym, ap, subst, ◌∙◌, arith}
 use Rattle.std.specs.Prelude.{Result, OnErr}
-use Rattle.ps_language.specs.declared.operators.Operator.{Operator}
+use Rattle.ps_step_outcome.specs.declared.world_operators.WorldOperator.{WorldOperator}
 use Rattle.ps_language.specs.Effect.{Around, Scene}
 use Rattle.ps_language.specs.World.{Status, World}
 use Rattle.ps_mem.specs.Heap.{Heap, Grants}
@@ -148,7 +148,7 @@ module _ (asks : Status → Around → Scene → Asked) (unwinding : Option Caus
           most = made.stays.most;
         }))
 
-  module _ (operator : Operator) (ok : result ≡ Ok (Calls operator)) where
+  module _ (operator : WorldOperator) (ok : result ≡ Ok (Calls operator)) where
     -- its turn left the memory as it was
     pub own_leaves : (w : World) → IsWorld before w → l.heap ≡ before.heap
     own_leaves w at =

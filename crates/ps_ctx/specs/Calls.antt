@@ -1,7 +1,7 @@
 -- When a call of an operator that is left to the world went as the definitions say (PLRM2, 7.1).
 use Rattle.std.specs.Prelude.{◌≡◌, ◌<◌, ◌≤◌, ℕ, ℤ, nat_lt, Bool, false, IsTrue, Option, Some, None}
 use Rattle.std.specs.Prelude.{OnOk, OnErr, Result, Ok, Err, List, length, drop}
-use Rattle.ps_language.specs.declared.operators.Operator.{Operator}
+use Rattle.ps_step_outcome.specs.declared.world_operators.WorldOperator.{WorldOperator}
 use Rattle.ps_language.specs.Contexts.{context_at}
 use Rattle.ps_language.specs.Effect.{Scene, Call, Deed, does, waits, Calling}
 use Rattle.ps_language.specs.Machines.{settled, scene_of}
@@ -107,8 +107,8 @@ CallsTo (Err reason) stepped before new = IsWorld new before
 
 -- For every world that the desk is of. What isn't made is no vmstatus that acts, and one that acts
 -- leaves the memory as it was
-pub record Calls (operator : Operator) (caller : ℕ) (attempt : Attempt) (shown : Option (ℤ × ℤ))
-    (result : Result Note Reason) (old new : Desk) : Type 0 where
+pub record Calls (operator : WorldOperator) (caller : ℕ) (attempt : Attempt)
+    (shown : Option (ℤ × ℤ)) (result : Result Note Reason) (old new : Desk) : Type 0 where
   pub meets : (w : World) (context : Context) → IsWorld old w
       → context_at w caller ≡ Some context
       → CallsTo result (called (calling_of operator) caller attempt.refused shown w context) w new

@@ -17,8 +17,7 @@ use ps_ops_state::lent::{Attempt, Runtime};
 /// `vmreclaim`.
 pub trait Deeds {
     /// A running context calls such an operator, whose element is taken: it is done, or the context
-    /// waits and tries again, or its error is noted, with the operator as the command. Any other
-    /// operator raises `undefined`.
+    /// waits and tries again, or its error is noted, with the operator as the command.
     ///
     /// Not made, with nothing changed: for the room of new objects or of a new context, for the
     /// records of the log of the slot, or as the note of an error.

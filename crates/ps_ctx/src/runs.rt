@@ -18,6 +18,7 @@ use ps_mem::{Memory, Slot};
 use ps_ops_operands::failure::NotMade;
 use ps_ops_state::lent::{Attempt, Runtime};
 use ps_step_interpreter::interprets::Interpret;
+use ps_step_outcome::batches::Batch;
 use ps_step_outcome::turned::Turned;
 
 /// What the step behind others came to, and what a `vmstatus` in it was shown.
@@ -25,15 +26,6 @@ use ps_step_outcome::turned::Turned;
 pub struct Next {
     pub told: Result<Note, NotMade>,
     pub shown: Option<(i32, i32)>,
-}
-
-/// Steps that were made, and what the one behind them came to.
-#[derive(Clone, Copy, Debug, PartialEq, Eq)]
-pub struct Advance {
-    pub made: u32,
-    /// None where as many were made as were asked for, or the context has ended: no call is left
-    /// then.
-    pub next: Option<Next>,
 }
 
 /// A number of words as `vmstatus` shows it, and as a schedule can have it: from 1 to the greatest
@@ -73,7 +65,7 @@ impl World {
         slot: Slot,
         most: u32,
         shows: bool,
-    ) -> Advance
+    ) -> Batch<Next>
         requires some { 1 ≤ most }
         requires there { IsSome (item_at self.old.contexts.table identifier) }
         requires may { MayStep self.old.calling identifier }
@@ -104,7 +96,7 @@ impl World {
             refused: false,
         };
         let told = self.step(makers, runtime, identifier, attempt, shown);
-        Advance {
+        Batch {
             made: 0,
             next: Some(Next { told, shown }),
         }
@@ -119,7 +111,7 @@ impl World {
         slot: Slot,
         most: u32,
         shows: bool,
-    ) -> Advance
+    ) -> Batch<Next>
         requires course { CourseAt identifier (course_in None) self.old.contexts.table }
         requires calling { self.old.calling ≡ None }
         requires steady { IsSteadyHeld
@@ -149,10 +141,10 @@ impl World {
         let made = run.made;
         let Some(next) = run.next else {
             if framed {
-                return Advance { made, next: None };
+                return Batch { made, next: None };
             }
             self.contexts.settle(identifier, Turned::Goes);
-            return Advance { made, next: None };
+            return Batch { made, next: None };
         };
         let turned = match next {
             Ok(turned) => turned,
@@ -161,7 +153,7 @@ impl World {
                     told: Err(reason),
                     shown: None,
                 };
-                return Advance {
+                return Batch {
                     made,
                     next: Some(next),
                 };
@@ -174,7 +166,7 @@ impl World {
         };
         let operators = &mut makers.operators;
         let told = self.finish(turned, operators, runtime, identifier, attempt, shown);
-        Advance {
+        Batch {
             made,
             next: Some(Next { told, shown }),
         }

@@ -17,22 +17,22 @@ use crate::retries::retried;
 use crate::turns::turn_of;
 use ps_ctx_table::contexts::Contexts;
 use ps_ctx_table::members::Course;
-use ps_language::operators::Operator;
 use ps_mem::Memory;
 use ps_ops_control::frames::Cause;
 use ps_ops_operands::failure::NotMade;
 use ps_ops_state::lent::{Attempt, Runtime};
 use ps_step_interpreter::interprets::Interpret;
 use ps_step_outcome::turned::Turned;
+use ps_step_outcome::world_operators::WorldOperator;
 
 /// A call of an operator that is left to the world, whose element is taken.
 #[derive(Clone, Copy, Debug, PartialEq, Eq)]
 pub struct Calling {
     pub caller: u32,
-    pub operator: Operator,
+    pub operator: WorldOperator,
 }
 
-/// All contexts, over a memory that is given to each step.
+/// All contexts; the memory, and what they share beside it, are given to each step.
 #[derive(Drop)]
 pub struct World {
     pub contexts: Contexts,

@@ -2,8 +2,8 @@
 use Rattle.std.proofs.Common.{◌≡◌, ℕ, arith, ℤ, Bool, true, false, List, [], ◌∷◌, ◌++◌, Option, Some, None, Ok, Err}
 use Rattle.std.proofs.Common.{refl, sym, ap, subst, ◌∙◌}
 use Rattle.std.specs.Prelude.{◌≢◌, Result, not, pos, negsuc, int_le, ◌&&◌}
-use Rattle.ps_language.specs.declared.operators.Operator.TheVariants.{Lock, Condition, CurrentContext, VmReclaim}
-use Rattle.ps_language.specs.declared.operators.Operator.TheVariants.{VmStatus, Yield}
+use Rattle.ps_step_outcome.specs.declared.world_operators.WorldOperator.TheVariants.{Lock, Condition, CurrentContext, VmReclaim}
+use Rattle.ps_step_outcome.specs.declared.world_operators.WorldOperator.TheVariants.{VmStatus, Yield}
 use Rattle.ps_language.specs.declared.errors.ErrorName.{ErrorName}
 use Rattle.ps_language.specs.declared.errors.ErrorName.TheVariants.{RangeCheck, StackOverflow, TypeCheck, VmError}
 use Rattle.ps_language.specs.Acts.{operands_effect}

@@ -4,8 +4,8 @@ use Rattle.std.proofs.Common.{subst, ◌∙◌}
 use Rattle.std.specs.Prelude.{◌≢◌, Result, not, drop}
 use Rattle.ps_language.specs.declared.errors.ErrorName.{ErrorName}
 use Rattle.ps_language.specs.declared.errors.ErrorName.TheVariants.{VmError}
-use Rattle.ps_language.specs.declared.operators.Operator.{Operator}
-use Rattle.ps_language.specs.declared.operators.Operator.TheVariants.{VmStatus}
+use Rattle.ps_step_outcome.specs.declared.world_operators.WorldOperator.{WorldOperator}
+use Rattle.ps_step_outcome.specs.declared.world_operators.WorldOperator.TheVariants.{VmStatus}
 use Rattle.ps_language.specs.Contexts.{context_at}
 use Rattle.ps_language.specs.Effect.{Scene, Deed, does, waits, Calling, Effect, makes}
 use Rattle.ps_language.specs.Objects.{made_between, lacks_room}
@@ -64,7 +64,7 @@ room_for_it refused w scene (leaves waits) same enough = absurd same
 room_for_it refused w scene (fails error) same enough = absurd same
 
 -- The row of the caller's part, and what is done once that is left; by what is shown
-module _ (operator : Operator) (caller : ℕ) (attempt : Attempt) (shown : Option (ℤ × ℤ)) (d : Desk)
+module _ (operator : WorldOperator) (caller : ℕ) (attempt : Attempt) (shown : Option (ℤ × ℤ)) (d : Desk)
     (steady : IsSteady d) (member : Member) (found : item_at d.members caller ≡ Some member)
     (runs : member.course ≡ Running) (asks : Scene → Asked)
     (few : (scene : Scene) → IsFew (asks scene)) (row : Row)
@@ -285,7 +285,7 @@ module _ (operator : Operator) (caller : ℕ) (attempt : Attempt) (shown : Optio
 
 -- ---- it changes its caller alone
 
-module _ (operator : Operator) (caller : ℕ) (attempt : Attempt) (shown : Option (ℤ × ℤ)) (d : Desk)
+module _ (operator : WorldOperator) (caller : ℕ) (attempt : Attempt) (shown : Option (ℤ × ℤ)) (d : Desk)
     (steady : IsSteady d) (member : Member) (found : item_at d.members caller ≡ Some member)
     (runs : member.course ≡ Running) (asks : Scene → Asked)
     (few : (scene : Scene) → IsFew (asks scene)) (row : Row)

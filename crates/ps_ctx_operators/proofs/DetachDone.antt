@@ -4,7 +4,7 @@ use Rattle.std.proofs.lemmas.Bool.Decides.{eqb_tells}
 use Rattle.std.specs.Option.{option_map_or}
 use Rattle.std.specs.Prelude.{◌&&◌, IsSome, OnSome, if◌then◌else◌}
 use Rattle.ps_language.specs.declared.errors.ErrorName.{ErrorName}
-use Rattle.ps_language.specs.declared.operators.Operator.TheVariants.{Detach}
+use Rattle.ps_step_outcome.specs.declared.world_operators.WorldOperator.TheVariants.{Detach}
 use Rattle.ps_language.specs.Contexts.{context_at, detach_row, doing, with_context, with_detached}
 use Rattle.ps_language.specs.Effect.{Scene, Deed}
 use Rattle.ps_language.specs.Outcome.{Outcome, leaves, fails}

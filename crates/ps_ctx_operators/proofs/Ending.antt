@@ -3,7 +3,7 @@ use Rattle.std.proofs.Common.{◌≡◌, ℕ, ◌≤◌, arith, ℤ, Bool, false
 use Rattle.std.proofs.Common.{ap, subst, ◌∙◌}
 use Rattle.std.specs.Prelude.{◌||◌}
 use Rattle.ps_language.specs.declared.errors.ErrorName.{ErrorName}
-use Rattle.ps_language.specs.declared.operators.Operator.{Operator}
+use Rattle.ps_step_outcome.specs.declared.world_operators.WorldOperator.{WorldOperator}
 use Rattle.ps_language.specs.Contexts.{context_at}
 use Rattle.ps_language.specs.Effect.{Deed, does, waits}
 use Rattle.ps_language.specs.Machines.{reaches, failed, settled}
@@ -28,6 +28,7 @@ use Rattle.ps_step_outcome.specs.declared.turned.Turned.{Turned}
 use Rattle.ps_step_outcome.specs.declared.turned.Turned.TheVariants.{Goes, Calls as TurnedCalls, Breaks, Ends}
 use Rattle.ps_step_outcome.specs.Turns.{Turns, TurnsBy, IsUnderWay, calling_of, error_needs, needs_in, nothing_more}
 use Rattle.ps_step_outcome.specs.Turns.{operator_error, reached_by}
+use Rattle.ps_step_outcome.specs.WorldOperators.{operator_of}
 use Rattle.ps_ctx_table.specs.declared.members.Course.TheVariants.{Running}
 use Rattle.ps_ctx_table.specs.declared.members.Member.{Member}
 use Rattle.ps_ctx_table.specs.Seats.{item_at, with_item}
@@ -121,7 +122,7 @@ own_reached (TurnedCalls operator) machine next is = cc
 own_reached (Breaks cause) machine next is = tt
 own_reached (Ends told) machine next is = tt
 
-module _ (operator : Operator) (caller : ℕ) (attempt : Attempt) (shown : Option (ℤ × ℤ))
+module _ (operator : WorldOperator) (caller : ℕ) (attempt : Attempt) (shown : Option (ℤ × ℤ))
     (old d : Desk) (member : Member) (found : item_at d.members caller ≡ Some member)
     (runs : member.course ≡ Running) (steady : IsSteady d) where
   -- ---- it settles
@@ -211,7 +212,7 @@ module _ (operator : Operator) (caller : ℕ) (attempt : Attempt) (shown : Optio
   module _ (error : ErrorName) (new : Lent)
       (done : DoesBy operator caller attempt shown (Err (Raises error)) old d) where
     abbrev turn : Lent → Store → Turn
-    turn = operator_error operator error
+    turn = operator_error (operator_of operator) error
 
     module _ (turned : Turned)
         (made : Turns nothing_more turn attempt (Ok turned) (lent_to d member.context) new) where
@@ -224,13 +225,15 @@ module _ (operator : Operator) (caller : ℕ) (attempt : Attempt) (shown : Optio
           (turned_reaches d steady caller member found nothing_more turn attempt new turned made w at))
 
       raised_world : (w : World) → IsWorld d w → IsWorld raised_desk
-          (lifted caller (λ machine. settled (failed error (command_of operator) machine)) w)
+          (lifted caller (λ machine.
+          settled (failed error (command_of (operator_of operator)) machine)) w)
       raised_world w at =
           subst (λ (t : Turned). IsWorld (desk_turned d caller member new t)
-          (lifted caller (λ machine. settled (failed error (command_of operator) machine)) w))
+          (lifted caller (λ machine.
+          settled (failed error (command_of (operator_of operator)) machine)) w))
           (sym (own_is w at))
-          (failed_world d w at caller member found runs steady nothing_more operator error attempt new
-          turned made)
+          (failed_world d w at caller member found runs steady nothing_more (operator_of operator)
+          error attempt new turned made)
 
       pub raised : Calls operator caller attempt shown (Ok Nothing) old raised_desk
       raised = record {
@@ -280,7 +283,7 @@ module _ (operator : Operator) (caller : ℕ) (attempt : Attempt) (shown : Optio
       line_wants w at = λ i.
           growth_for (error_needs no_rooms (birth_at d.heap member.context.error_dictionary)
           (record (scene_of (lent_to d member.context) w.store) { names = sym at.names i }) error
-          (command_of operator)
+          (command_of (operator_of operator))
           (record (scene_of (lent_to d member.context) w.store) { names = sym at.names i }))
 
       line_held : (w : World) (context : Context) → IsWorld d w
@@ -348,7 +351,7 @@ module _ (operator : Operator) (caller : ℕ) (attempt : Attempt) (shown : Optio
             called_no (calling_of operator) caller refused any w context
             (other_or_status operator context.operands (call_by caller any w context)
             (λ is. failed_no attempt.refused w context caller any error
-            (ap (λ (one : Operator). outcome_of one caller attempt.refused w context any) (sym is)
+            (ap (λ (one : WorldOperator). outcome_of one caller attempt.refused w context any) (sym is)
             ∙ (done.meets w context at there).0 any)));
         leaves = λ is. absurd (cc);
       }

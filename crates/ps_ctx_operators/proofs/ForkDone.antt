@@ -6,7 +6,7 @@ use Rattle.std.proofs.lemmas.List.{length-append, length-set}
 use Rattle.std.specs.Prelude.{IsSome, OnSome, nat_lt, option_and_then, option_map, if◌then◌else◌}
 use Rattle.std.specs.Option.{is_some}
 use Rattle.ps_language.specs.declared.errors.ErrorName.TheVariants.{InvalidAccess, LimitCheck, TypeCheck, UnmatchedMark}
-use Rattle.ps_language.specs.declared.operators.Operator.TheVariants.{Fork}
+use Rattle.ps_step_outcome.specs.declared.world_operators.WorldOperator.TheVariants.{Fork}
 use Rattle.ps_language.specs.Access.{is_executable}
 use Rattle.ps_language.specs.Acts.{change_effect}
 use Rattle.ps_language.specs.Contexts.{contexts_with, doing, fork_row, left_of, new_context, with_context}

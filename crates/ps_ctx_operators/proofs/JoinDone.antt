@@ -6,7 +6,7 @@ use Rattle.std.proofs.lemmas.Bool.Decides.{nat_tests}
 use Rattle.std.specs.Prelude.{Result, not, nat_le}
 use Rattle.ps_language.specs.declared.errors.ErrorName.{ErrorName}
 use Rattle.ps_language.specs.declared.errors.ErrorName.TheVariants.{StackOverflow, VmError}
-use Rattle.ps_language.specs.declared.operators.Operator.TheVariants.{Join}
+use Rattle.ps_step_outcome.specs.declared.world_operators.WorldOperator.TheVariants.{Join}
 use Rattle.ps_language.specs.Acts.{operands_effect}
 use Rattle.ps_language.specs.Contexts.{context_at, doing, join_row, without_context}
 use Rattle.ps_language.specs.Effect.{Scene, Deed, waits, Effect, makes}

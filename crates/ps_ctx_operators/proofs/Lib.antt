@@ -1,4 +1,3 @@
-mod UndefinedDone
 pub mod DeedLaws
 pub mod Reading
 pub mod Wishing

@@ -4,7 +4,7 @@ use Rattle.std.proofs.Common.{Ok, Err, refl, sym, ap, subst, ◌∙◌, inl, inr
 use Rattle.std.specs.Prelude.{not, unwrap_or, if◌then◌else◌}
 use Rattle.ps_language.specs.declared.errors.ErrorName.TheVariants.{ExecStackOverflow, InvalidAccess, InvalidContext}
 use Rattle.ps_language.specs.declared.errors.ErrorName.TheVariants.{TypeCheck}
-use Rattle.ps_language.specs.declared.operators.Operator.TheVariants.{Monitor}
+use Rattle.ps_step_outcome.specs.declared.world_operators.WorldOperator.TheVariants.{Monitor}
 use Rattle.ps_language.proofs.AskedLemmas.{made-same}
 use Rattle.ps_language.specs.Access.{is_executable}
 use Rattle.ps_language.specs.Control.{as_procedure, frames_fit}

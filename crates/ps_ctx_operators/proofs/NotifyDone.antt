@@ -4,7 +4,7 @@ use Rattle.std.proofs.Common.{sym, ap, subst, ◌∙◌}
 use Rattle.std.specs.Prelude.{◌==◌, option_map, option_and_then, slice_get, slice_set, if◌then◌else◌}
 use Rattle.ps_language.specs.declared.kinds.Kind.TheVariants.{Condition as ConditionKind}
 use Rattle.ps_language.specs.declared.errors.ErrorName.TheVariants.{TypeCheck}
-use Rattle.ps_language.specs.declared.operators.Operator.TheVariants.{Notify}
+use Rattle.ps_step_outcome.specs.declared.world_operators.WorldOperator.TheVariants.{Notify}
 use Rattle.ps_language.specs.Acts.{operands_effect}
 use Rattle.ps_language.specs.Contexts.{doing}
 use Rattle.ps_language.specs.Effect.{Scene, Call, Deed, makes}

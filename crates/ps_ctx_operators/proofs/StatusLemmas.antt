@@ -3,10 +3,10 @@ use Rattle.std.proofs.Common.{◌≡◌, ℕ, ℤ, Bool, true, false, Option, No
 use Rattle.std.specs.Prelude.{◌++◌, not, ⊤}
 use Rattle.ps_language.specs.declared.errors.ErrorName.{ErrorName}
 use Rattle.ps_language.specs.declared.errors.ErrorName.TheVariants.{VmError, StackOverflow}
-use Rattle.ps_language.specs.declared.operators.Operator.{Operator}
-use Rattle.ps_language.specs.declared.operators.Operator.TheVariants.{CurrentContext, Fork, Join, Detach, Lock, Monitor}
-use Rattle.ps_language.specs.declared.operators.Operator.TheVariants.{Condition, Wait, Notify, Yield, VmStatus}
-use Rattle.ps_language.specs.declared.operators.Operator.TheVariants.{VmReclaim}
+use Rattle.ps_step_outcome.specs.declared.world_operators.WorldOperator.{WorldOperator}
+use Rattle.ps_step_outcome.specs.declared.world_operators.WorldOperator.TheVariants.{CurrentContext, Fork, Join, Detach, Lock, Monitor}
+use Rattle.ps_step_outcome.specs.declared.world_operators.WorldOperator.TheVariants.{Condition, Wait, Notify, Yield, VmStatus}
+use Rattle.ps_step_outcome.specs.declared.world_operators.WorldOperator.TheVariants.{VmReclaim}
 use Rattle.ps_language.specs.Contexts.{with_context, with_operands_of, doing_operands, memory_shown, vmstatus_row}
 use Rattle.ps_language.specs.Contexts.{vmreclaim_row, new_row, fork_row, join_row, detach_row}
 use Rattle.ps_language.specs.Effect.{Call, Note, nothing, turn_ends, shows_memory, Deed, does, waits, Calling}
@@ -88,7 +88,7 @@ notify-other (c ∷ rest) call = search (leaving, nothing-no)
 -- ---- all operators
 
 -- it is none where a vmstatus is none
-pub other_or_status : (operator : Operator) (operands : List Value) (call : Call)
+pub other_or_status : (operator : WorldOperator) (operands : List Value) (call : Call)
     → (operator ≡ VmStatus → Leaves DeedIsNoStatus (vmstatus_row operands call))
     → Leaves DeedIsNoStatus ((calling_of operator).deed operands call)
 other_or_status CurrentContext operands call status = doing-other nothing call _ nothing-no
@@ -103,7 +103,6 @@ other_or_status Notify operands call status = notify-other operands call
 other_or_status Yield operands call status = left_with turn_ends-no
 other_or_status VmStatus operands call status = status refl
 other_or_status VmReclaim operands call status = vmreclaim-other operands call
-other_or_status _ operands call status = left_none
 
 -- ---- a vmstatus that is an error
 

@@ -2,7 +2,7 @@
 use Rattle.std.proofs.Common.{◌≡◌, ℕ, ℤ, false, Option, Some, None, Ok, sym, ap, subst, ◌∙◌}
 use Rattle.std.specs.Option.{option_map_or}
 use Rattle.std.specs.Prelude.{◌&&◌, if◌then◌else◌}
-use Rattle.ps_language.specs.declared.operators.Operator.{Operator}
+use Rattle.ps_step_outcome.specs.declared.world_operators.WorldOperator.{WorldOperator}
 use Rattle.ps_language.specs.Contexts.{left_of, context_at}
 use Rattle.ps_language.specs.Machines.{with_status}
 use Rattle.ps_language.specs.Step.{with_machine, lifted, machine_of, called}
@@ -129,7 +129,7 @@ module _ (caller : ℕ) (d : Desk) (steady : IsSteady d) (member : Member)
       sym (context_there d w at caller member found) ∙ named in cc
 
   -- the call that comes to it
-  pub stops : (operator : Operator) (attempt : Attempt) (shown : Option (ℤ × ℤ))
+  pub stops : (operator : WorldOperator) (attempt : Attempt) (shown : Option (ℤ × ℤ))
       → IsCourseHeld new.heap course → HasFrame course new.frames
       → KeepsLogsWithin most_records d.grants new.grants attempt.slot
       → ((w : World) → IsWorld d w → CallsTo (Ok TurnEnds)

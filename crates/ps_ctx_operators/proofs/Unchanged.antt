@@ -1,7 +1,7 @@
 -- An error that is raised on the desk as it is.
 use Rattle.std.proofs.Common.{◌≡◌, ℕ, ℤ, Option, Some, Err, refl, sym, ap, ◌∙◌}
 use Rattle.ps_language.specs.declared.errors.ErrorName.{ErrorName}
-use Rattle.ps_language.specs.declared.operators.Operator.{Operator}
+use Rattle.ps_step_outcome.specs.declared.world_operators.WorldOperator.{WorldOperator}
 use Rattle.ps_language.specs.Contexts.{context_at}
 use Rattle.ps_language.specs.Outcome.{fails}
 use Rattle.ps_language.specs.Step.{deed_given_room}
@@ -26,7 +26,7 @@ here_is d w at caller member found context there =
     let same : Some (context_of d.heap d.names member) ≡ Some context =
     sym (context_there d w at caller member found) ∙ there in cc
 
-pub raised_there : (operator : Operator) (caller : ℕ) (attempt : Attempt) (shown : Option (ℤ × ℤ))
+pub raised_there : (operator : WorldOperator) (caller : ℕ) (attempt : Attempt) (shown : Option (ℤ × ℤ))
     (d : Desk) (error : ErrorName) → IsSteady d → RunsAt caller d.members
     → ((w : World) (context : Context) → IsWorld d w → context_at w caller ≡ Some context
     → (any : Option (ℤ × ℤ))

@@ -4,7 +4,7 @@ use Rattle.std.proofs.Common.{◌∙◌}
 use Rattle.std.specs.Prelude.{not, option_map, option_and_then}
 use Rattle.ps_language.specs.declared.kinds.Kind.TheVariants.{Lock as LockKind, Condition as ConditionKind}
 use Rattle.ps_language.specs.declared.errors.ErrorName.TheVariants.{InvalidContext, TypeCheck, VmError}
-use Rattle.ps_language.specs.declared.operators.Operator.TheVariants.{Wait}
+use Rattle.ps_step_outcome.specs.declared.world_operators.WorldOperator.TheVariants.{Wait}
 use Rattle.ps_language.specs.Acts.{change_effect}
 use Rattle.ps_language.specs.Effect.{Scene, Call, turn_ends, Deed, does, makes}
 use Rattle.ps_language.specs.Machines.{with_status, with_scene, may_end, settled}

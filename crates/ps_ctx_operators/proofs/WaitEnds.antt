@@ -1,6 +1,6 @@
 -- A call whose caller must wait comes to its end.
 use Rattle.std.proofs.Common.{◌≡◌, ℕ, ℤ, Option, Some, None, Ok, sym, ap, subst, refl}
-use Rattle.ps_language.specs.declared.operators.Operator.{Operator}
+use Rattle.ps_step_outcome.specs.declared.world_operators.WorldOperator.{WorldOperator}
 use Rattle.ps_language.specs.Effect.{Deed, waits as waits_on}
 use Rattle.ps_language.specs.Outcome.{Outcome, leaves}
 use Rattle.ps_language.specs.Step.{after_deed}
@@ -20,7 +20,7 @@ use Rattle.ps_ctx.specs.Calls.{AreFramedBut, CallsTo, Calls}
 use Rattle.ps_ctx.proofs.Calling.{none_left}
 use Rattle.ps_ctx_operators.specs.Waits.{WaitsBy}
 
-module _ (operator : Operator) (caller : ℕ) (attempt : Attempt) (shown : Option (ℤ × ℤ))
+module _ (operator : WorldOperator) (caller : ℕ) (attempt : Attempt) (shown : Option (ℤ × ℤ))
     (old d : Desk) (member : Member) (found : item_at d.members caller ≡ Some member)
     (waits : WaitsBy operator caller attempt shown old d) where
   abbrev again : Member

@@ -1,10 +1,8 @@
 -- When what an operator that is left to the world does was done, and its caller has not settled yet
 -- (PLRM2, 7.1).
 use Rattle.std.specs.Prelude.{◌≡◌, ◌≢◌, ℕ, ℤ, Bool, Option, Some, Result, Ok, Err, OnErr}
-use Rattle.ps_language.specs.declared.operators.Operator.{Operator}
-use Rattle.ps_language.specs.declared.operators.Operator.TheVariants.{CurrentContext, VmStatus}
-use Rattle.ps_language.specs.declared.operators.Operator.TheVariants.{VmReclaim, Lock, Condition}
-use Rattle.ps_language.specs.declared.operators.Operator.TheVariants.{Yield}
+use Rattle.ps_step_outcome.specs.declared.world_operators.WorldOperator.{WorldOperator}
+use Rattle.ps_step_outcome.specs.declared.world_operators.WorldOperator.TheVariants.{VmStatus}
 use Rattle.ps_language.specs.Contexts.{context_at}
 use Rattle.ps_language.specs.Effect.{Deed, does, waits}
 use Rattle.ps_language.specs.Outcome.{Outcome, leaves, fails}
@@ -42,7 +40,7 @@ ComesTo (Err (NotMade reason)) shown outcome before new = IsWorld new before
 ComesTo (Err (Unwinds cause)) shown outcome before new = ⊥
 
 -- what an operator of a caller comes to
-abbrev pub outcome_of : Operator → (caller : ℕ) → (refused : Bool) → World → Context
+abbrev pub outcome_of : WorldOperator → (caller : ℕ) → (refused : Bool) → World → Context
     → (shown : Option (ℤ × ℤ)) → Outcome Deed
 outcome_of operator caller refused w context shown =
     deed_given_room refused w ((calling_of operator).deed context.operands
@@ -50,8 +48,8 @@ outcome_of operator caller refused w context shown =
 
 -- For every world that the desk is of; the caller is still there, and runs. A vmstatus is always
 -- made, and one that acts leaves the memory as it was
-pub record DoesBy (operator : Operator) (caller : ℕ) (attempt : Attempt) (shown : Option (ℤ × ℤ))
-    (result : Result Note Break) (old new : Desk) : Type 0 where
+pub record DoesBy (operator : WorldOperator) (caller : ℕ) (attempt : Attempt)
+    (shown : Option (ℤ × ℤ)) (result : Result Note Break) (old new : Desk) : Type 0 where
   pub meets : (w : World) (context : Context) → IsWorld old w
       → context_at w caller ≡ Some context
       → ComesTo result shown (outcome_of operator caller attempt.refused w context) w new
@@ -79,13 +77,3 @@ noted note (Err why) = Err why
 abbrev pub own_of : Turned → Turned
 own_of (TurnedCalls operator) = Goes
 own_of turned = turned
-
--- the operators that change their caller alone
-abbrev pub IsAlone : Operator → Type 0
-IsAlone CurrentContext = Unit {0}
-IsAlone VmStatus = Unit {0}
-IsAlone VmReclaim = Unit {0}
-IsAlone Lock = Unit {0}
-IsAlone Condition = Unit {0}
-IsAlone Yield = Unit {0}
-IsAlone operator = ⊥

@@ -1,6 +1,6 @@
 -- When the caller of an operator that is left to the world must wait (PLRM2, 7.1).
 use Rattle.std.specs.Prelude.{◌≡◌, ℕ, ℤ, Option, Some}
-use Rattle.ps_language.specs.declared.operators.Operator.{Operator}
+use Rattle.ps_step_outcome.specs.declared.world_operators.WorldOperator.{WorldOperator}
 use Rattle.ps_language.specs.Contexts.{context_at}
 use Rattle.ps_language.specs.Effect.{waits}
 use Rattle.ps_language.specs.Outcome.{leaves}
@@ -13,8 +13,8 @@ use Rattle.ps_ctx.specs.Calls.{RunsAt, AreFramedBut}
 use Rattle.ps_ctx_operators.specs.Done.{outcome_of}
 
 -- in every world that the desk is of; the caller runs, until it is noted that it tries again
-pub record WaitsBy (operator : Operator) (caller : ℕ) (attempt : Attempt) (shown : Option (ℤ × ℤ))
-    (old new : Desk) : Type 0 where
+pub record WaitsBy (operator : WorldOperator) (caller : ℕ) (attempt : Attempt)
+    (shown : Option (ℤ × ℤ)) (old new : Desk) : Type 0 where
   pub meets : (w : World) (context : Context) → IsWorld old w
       → context_at w caller ≡ Some context
       → (outcome_of operator caller attempt.refused w context shown ≡ leaves waits)

@@ -1,7 +1,7 @@
 //! A caller that must wait tries its operator again (PLRM2, 7.1).
 
 ghost use Rattle.std.specs.Prelude.{ℤ, Option, Ok};
-ghost use Rattle.ps_language.specs.declared.operators.Operator.{Operator as AnOperator};
+ghost use Rattle.ps_step_outcome.specs.declared.world_operators.WorldOperator.{WorldOperator as AnOperator};
 ghost use Rattle.ps_mem.specs.Heap.{Heap, Grants};
 ghost use Rattle.ps_ops_state.specs.declared.lent.Attempt.{Attempt as AnAttempt};
 ghost use Rattle.ps_ops_state.specs.declared.lent.Shared.{Shared as TheShared};

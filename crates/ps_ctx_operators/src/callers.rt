@@ -10,10 +10,10 @@ ghost use Rattle.ps_ctx_operators.specs.Done.{DoesBy, noted};
 use crate::{identifiers, locks, statuses};
 use ps_ctx::notes::Note;
 use ps_ctx_table::contexts::Contexts;
-use ps_language::operators::Operator;
 use ps_mem::Memory;
 use ps_ops_state::breaks::Break;
 use ps_ops_state::lent::{Attempt, Runtime};
+use ps_step_outcome::world_operators::WorldOperator;
 
 /// What an operator came to, with this note where it acted.
 pub(crate) fn noted(note: Note, outcome: Result<(), Break>) -> Result<Note, Break>
@@ -35,7 +35,7 @@ pub fn new_lock<M: Memory>(
 ) -> Result<Note, Break>
     requires runs { RunsAt caller contexts.old.table }
     requires steady { IsSteady (over_of M.heap M.grants runtime.old contexts.old) }
-    ensures { (shown : Option (ℤ × ℤ)) → DoesBy Operator.Lock caller attempt shown result
+    ensures { (shown : Option (ℤ × ℤ)) → DoesBy WorldOperator.Lock caller attempt shown result
         (over_of M.heap M.grants runtime.old contexts.old)
         (over_of M.heap M.grants runtime.new contexts.new) }
 {
@@ -54,7 +54,7 @@ pub fn new_condition<M: Memory>(
 ) -> Result<Note, Break>
     requires runs { RunsAt caller contexts.old.table }
     requires steady { IsSteady (over_of M.heap M.grants runtime.old contexts.old) }
-    ensures { (shown : Option (ℤ × ℤ)) → DoesBy Operator.Condition caller attempt shown result
+    ensures { (shown : Option (ℤ × ℤ)) → DoesBy WorldOperator.Condition caller attempt shown result
         (over_of M.heap M.grants runtime.old contexts.old)
         (over_of M.heap M.grants runtime.new contexts.new) }
 {
@@ -73,7 +73,7 @@ pub fn current_context<M: Memory>(
     requires runs { RunsAt caller contexts.old.table }
     requires steady { IsSteady (over_of M.heap M.grants runtime.old contexts.old) }
     ensures { (attempt : AnAttempt) (shown : Option (ℤ × ℤ))
-        → DoesBy Operator.CurrentContext caller attempt shown result
+        → DoesBy WorldOperator.CurrentContext caller attempt shown result
         (over_of M.heap M.grants runtime.old contexts.old)
         (over_of M.heap M.grants runtime.new contexts.new) }
 {
@@ -94,7 +94,7 @@ pub fn vm_reclaim<M: Memory>(
     requires runs { RunsAt caller contexts.old.table }
     requires steady { IsSteady (over_of M.heap M.grants runtime.old contexts.old) }
     ensures { (attempt : AnAttempt) (shown : Option (ℤ × ℤ))
-        → DoesBy Operator.VmReclaim caller attempt shown result
+        → DoesBy WorldOperator.VmReclaim caller attempt shown result
         (over_of M.heap M.grants runtime.old contexts.old)
         (over_of M.heap M.grants runtime.new contexts.new) }
 {
@@ -115,7 +115,7 @@ pub fn vm_status<M: Memory>(
 ) -> Result<Note, Break>
     requires runs { RunsAt caller contexts.old.table }
     requires steady { IsSteady (over_of M.heap M.grants runtime.old contexts.old) }
-    ensures { (attempt : AnAttempt) → DoesBy Operator.VmStatus caller attempt shown result
+    ensures { (attempt : AnAttempt) → DoesBy WorldOperator.VmStatus caller attempt shown result
         (over_of M.heap M.grants runtime.old contexts.old)
         (over_of M.heap M.grants runtime.new contexts.new) }
 {
@@ -130,7 +130,8 @@ pub fn vm_status<M: Memory>(
 pub fn give_way() -> Result<Note, Break>
     ensures { (caller : ℕ) (attempt : AnAttempt) (shown : Option (ℤ × ℤ)) (desk : Desk) → IsSteady
         desk
-        → RunsAt caller desk.members → DoesBy Operator.Yield caller attempt shown result desk desk }
+        → RunsAt caller desk.members
+        → DoesBy WorldOperator.Yield caller attempt shown result desk desk }
 {
     Ok(Note::TurnEnds)
 }

@@ -16,11 +16,11 @@ use ps_ctx::worlds::Calling;
 use ps_ctx_table::contexts::Contexts;
 use ps_ctx_table::members::Member;
 use ps_ctx_table::table::Table;
-use ps_language::operators::Operator;
 use ps_mem::Memory;
 use ps_ops_operands::failure::NotMade;
 use ps_ops_state::breaks::Break;
 use ps_ops_state::lent::{Attempt, Runtime};
+use ps_step_outcome::world_operators::WorldOperator;
 
 /// The context of an identifier is detached from now on; one that is finished is gone.
 fn leave(identifier: u32, table: &mut Table<Member>)
@@ -45,7 +45,7 @@ pub fn detach<M: Memory>(
     requires runs { RunsAt caller contexts.old.table }
     requires steady { IsSteady (over_of M.heap M.grants runtime.old contexts.old) }
     ensures { (attempt : AnAttempt) (shown : Option (ℤ × ℤ))
-        → DoesBy Operator.Detach caller attempt shown result
+        → DoesBy WorldOperator.Detach caller attempt shown result
         (over_of M.heap M.grants runtime.old contexts.old)
         (over_of M.heap M.grants runtime.new contexts.new) }
 {
@@ -77,13 +77,13 @@ pub fn call_detach<M: Memory>(
 ) -> Result<Note, NotMade>
     requires runs { RunsAt caller contexts.old.table }
     requires steady { IsSteady (over_of M.heap M.grants runtime.old contexts.old) }
-    ensures { Calls Operator.Detach caller attempt shown result
+    ensures { Calls WorldOperator.Detach caller attempt shown result
         (over_of M.heap M.grants runtime.old contexts.old)
         (over_of M.heap M.grants runtime.new contexts.new) }
 {
     let calling = Calling {
         caller,
-        operator: Operator::Detach,
+        operator: WorldOperator::Detach,
     };
     let done = detach(caller, contexts, runtime);
     end(calling, done, contexts, runtime, attempt)

@@ -44,14 +44,9 @@ fn raise<M: Memory>(
         → Calls calling.operator calling.caller attempt shown result before
         (over_of M.heap M.grants runtime.new contexts.new) }
 {
+    let operator = calling.operator.operator();
     let member = contexts.table.get_mut(calling.caller);
-    match raise_by(
-        calling.operator,
-        error,
-        &mut member.context,
-        runtime,
-        attempt,
-    ) {
+    match raise_by(operator, error, &mut member.context, runtime, attempt) {
         Ok(turned) => {
             contexts.settle(calling.caller, own_of(turned));
             Ok(Note::Nothing)

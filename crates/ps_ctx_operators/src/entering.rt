@@ -10,10 +10,10 @@ use ps_ctx::notes::Note;
 use ps_ctx::worlds::Calling;
 use ps_ctx_table::contexts::Contexts;
 use ps_ctx_table::members::Course;
-use ps_language::operators::Operator;
 use ps_mem::Memory;
 use ps_ops_operands::failure::NotMade;
 use ps_ops_state::lent::{Attempt, Runtime};
+use ps_step_outcome::world_operators::WorldOperator;
 
 /// A running context calls `monitor`, whose element is taken: a free lock is the caller's, and the
 /// procedure is entered. Where the lock is another's nothing has changed, the call is to be tried
@@ -33,13 +33,13 @@ pub fn call_monitor<M: Memory>(
 ) -> Result<Note, NotMade>
     requires runs { RunsAt caller contexts.old.table }
     requires steady { IsSteady (over_of M.heap M.grants runtime.old contexts.old) }
-    ensures { Calls Operator.Monitor caller attempt shown result
+    ensures { Calls WorldOperator.Monitor caller attempt shown result
         (over_of M.heap M.grants runtime.old contexts.old)
         (over_of M.heap M.grants runtime.new contexts.new) }
 {
     let calling = Calling {
         caller,
-        operator: Operator::Monitor,
+        operator: WorldOperator::Monitor,
     };
     // no identifier that was made is above 2^31 - 1
     contexts.table.made();

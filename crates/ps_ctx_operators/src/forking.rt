@@ -13,11 +13,11 @@ use ps_ctx::notes::Note;
 use ps_ctx::worlds::Calling;
 use ps_ctx_table::contexts::Contexts;
 use ps_ctx_table::members::{Course, Member};
-use ps_language::operators::Operator;
 use ps_mem::Memory;
 use ps_ops_operands::failure::NotMade;
 use ps_ops_state::breaks::Break;
 use ps_ops_state::lent::{Attempt, Context, Runtime};
+use ps_step_outcome::world_operators::WorldOperator;
 use std::alloc::Global;
 
 /// A context as it begins: it runs, or is finished at once where it has no frame.
@@ -62,7 +62,7 @@ pub fn fork<M: Memory>(
 ) -> Result<Note, Break>
     requires runs { RunsAt caller contexts.old.table }
     requires steady { IsSteady (over_of M.heap M.grants runtime.old contexts.old) }
-    ensures { (shown : Option (ℤ × ℤ)) → DoesBy Operator.Fork caller attempt shown result
+    ensures { (shown : Option (ℤ × ℤ)) → DoesBy WorldOperator.Fork caller attempt shown result
         (over_of M.heap M.grants runtime.old contexts.old)
         (over_of M.heap M.grants runtime.new contexts.new) }
 {
@@ -97,13 +97,13 @@ pub fn call_fork<M: Memory>(
 ) -> Result<Note, NotMade>
     requires runs { RunsAt caller contexts.old.table }
     requires steady { IsSteady (over_of M.heap M.grants runtime.old contexts.old) }
-    ensures { Calls Operator.Fork caller attempt shown result
+    ensures { Calls WorldOperator.Fork caller attempt shown result
         (over_of M.heap M.grants runtime.old contexts.old)
         (over_of M.heap M.grants runtime.new contexts.new) }
 {
     let calling = Calling {
         caller,
-        operator: Operator::Fork,
+        operator: WorldOperator::Fork,
     };
     let same_attempt = attempt;
     let done = fork(caller, alloc, contexts, runtime, attempt);

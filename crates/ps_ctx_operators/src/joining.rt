@@ -16,12 +16,12 @@ use ps_ctx::notes::Note;
 use ps_ctx::worlds::Calling;
 use ps_ctx_table::contexts::Contexts;
 use ps_language::errors::ErrorName;
-use ps_language::operators::Operator;
 use ps_mem::Memory;
 use ps_ops_operands::failure::NotMade;
 use ps_ops_state::breaks::Break;
 use ps_ops_state::lent::{Attempt, Runtime};
 use ps_stacks::OPERAND_LIMIT;
+use ps_step_outcome::world_operators::WorldOperator;
 
 /// What `join` finds of the context that it names.
 #[derive(Clone, Copy, Debug, PartialEq, Eq)]
@@ -81,7 +81,7 @@ fn take<M: Memory>(
     requires runs { RunsAt caller contexts.old.table }
     requires steady { IsSteady (over_of M.heap M.grants runtime.old contexts.old) }
     ensures { (attempt : AnAttempt) (shown : Option (ℤ × ℤ))
-        → DoesBy Operator.Join caller attempt shown result
+        → DoesBy WorldOperator.Join caller attempt shown result
         (over_of M.heap M.grants runtime.old contexts.old)
         (over_of M.heap M.grants runtime.new contexts.new) }
 {
@@ -113,13 +113,13 @@ pub fn call_join<M: Memory>(
 ) -> Result<Note, NotMade>
     requires runs { RunsAt caller contexts.old.table }
     requires steady { IsSteady (over_of M.heap M.grants runtime.old contexts.old) }
-    ensures { Calls Operator.Join caller attempt shown result
+    ensures { Calls WorldOperator.Join caller attempt shown result
         (over_of M.heap M.grants runtime.old contexts.old)
         (over_of M.heap M.grants runtime.new contexts.new) }
 {
     let calling = Calling {
         caller,
-        operator: Operator::Join,
+        operator: WorldOperator::Join,
     };
     match find(caller, contexts) {
         Ok(found) => match found {

@@ -12,7 +12,6 @@
 #![tactic(auto)]
 
 mod again;
-pub mod alone;
 pub mod callers;
 pub mod detaching;
 pub mod endings;
@@ -34,5 +33,4 @@ pub mod readiness;
 pub mod retaking;
 mod stacks;
 pub mod statuses;
-pub mod undefined;
 pub mod waiting;

@@ -11,11 +11,11 @@ use crate::monitors;
 use ps_ctx::notes::Note;
 use ps_ctx::worlds::Calling;
 use ps_ctx_table::contexts::Contexts;
-use ps_language::operators::Operator;
 use ps_mem::Memory;
 use ps_ops_operands::failure::NotMade;
 use ps_ops_state::breaks::Break;
 use ps_ops_state::lent::{Attempt, Runtime};
+use ps_step_outcome::world_operators::WorldOperator;
 
 /// `C notify`: all that wait for the condition retake their locks. Its caller hasn't settled yet.
 /// Raises `stackunderflow` and `typecheck`.
@@ -27,7 +27,7 @@ pub fn notify<M: Memory>(
     requires runs { RunsAt caller contexts.old.table }
     requires steady { IsSteady (over_of M.heap M.grants runtime.old contexts.old) }
     ensures { (attempt : AnAttempt) (shown : Option (ℤ × ℤ))
-        → DoesBy Operator.Notify caller attempt shown result
+        → DoesBy WorldOperator.Notify caller attempt shown result
         (over_of M.heap M.grants runtime.old contexts.old)
         (over_of M.heap M.grants runtime.new contexts.new) }
 {
@@ -55,13 +55,13 @@ pub fn call_notify<M: Memory>(
 ) -> Result<Note, NotMade>
     requires runs { RunsAt caller contexts.old.table }
     requires steady { IsSteady (over_of M.heap M.grants runtime.old contexts.old) }
-    ensures { Calls Operator.Notify caller attempt shown result
+    ensures { Calls WorldOperator.Notify caller attempt shown result
         (over_of M.heap M.grants runtime.old contexts.old)
         (over_of M.heap M.grants runtime.new contexts.new) }
 {
     let calling = Calling {
         caller,
-        operator: Operator::Notify,
+        operator: WorldOperator::Notify,
     };
     let done = notify(caller, contexts, runtime);
     end(calling, done, contexts, runtime, attempt)

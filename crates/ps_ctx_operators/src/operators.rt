@@ -1,23 +1,23 @@
 //! The operators that are left to the world, in one dispatch.
 
-use crate::alone::call_alone;
+use crate::callers::{current_context, give_way, new_condition, new_lock, vm_reclaim, vm_status};
 use crate::detaching::call_detach;
+use crate::endings::end;
 use crate::entering::call_monitor;
 use crate::forking::call_fork;
 use crate::joining::call_join;
 use crate::notifying::call_notify;
 use crate::readiness::is_ready;
 use crate::retaking::retake;
-use crate::undefined::call_undefined;
 use crate::waiting::call_wait;
 use ps_ctx::deeds::Deeds;
 use ps_ctx::notes::Note;
 use ps_ctx::worlds::Calling;
 use ps_ctx_table::contexts::Contexts;
-use ps_language::operators::Operator;
 use ps_mem::Memory;
 use ps_ops_operands::failure::NotMade;
 use ps_ops_state::lent::{Attempt, Runtime};
+use ps_step_outcome::world_operators::WorldOperator;
 use std::alloc::Global;
 
 /// Who does them; the stacks of a new context have their room from this allocator.
@@ -36,20 +36,38 @@ impl Deeds for WorldOperators {
         shown: Option<(i32, i32)>,
     ) -> Result<Note, NotMade> {
         let caller = calling.caller;
+        let same_attempt = attempt;
         match calling.operator {
-            Operator::Fork => call_fork(caller, self.alloc, contexts, runtime, attempt, shown),
-            Operator::Join => call_join(caller, contexts, runtime, attempt, shown),
-            Operator::Detach => call_detach(caller, contexts, runtime, attempt, shown),
-            Operator::Monitor => call_monitor(caller, contexts, runtime, attempt, shown),
-            Operator::Wait => call_wait(caller, contexts, runtime, attempt, shown),
-            Operator::Notify => call_notify(caller, contexts, runtime, attempt, shown),
-            Operator::CurrentContext
-            | Operator::Lock
-            | Operator::Condition
-            | Operator::Yield
-            | Operator::VmStatus
-            | Operator::VmReclaim => call_alone(calling, contexts, runtime, attempt, shown),
-            _ => call_undefined(calling, contexts, runtime, attempt, shown),
+            WorldOperator::Fork => call_fork(caller, self.alloc, contexts, runtime, attempt, shown),
+            WorldOperator::Join => call_join(caller, contexts, runtime, attempt, shown),
+            WorldOperator::Detach => call_detach(caller, contexts, runtime, attempt, shown),
+            WorldOperator::Monitor => call_monitor(caller, contexts, runtime, attempt, shown),
+            WorldOperator::Wait => call_wait(caller, contexts, runtime, attempt, shown),
+            WorldOperator::Notify => call_notify(caller, contexts, runtime, attempt, shown),
+            WorldOperator::CurrentContext => {
+                let done = current_context(caller, contexts, runtime);
+                end(calling, done, contexts, runtime, attempt)
+            }
+            WorldOperator::VmStatus => {
+                let done = vm_status(caller, shown, contexts, runtime);
+                end(calling, done, contexts, runtime, attempt)
+            }
+            WorldOperator::VmReclaim => {
+                let done = vm_reclaim(caller, contexts, runtime);
+                end(calling, done, contexts, runtime, attempt)
+            }
+            WorldOperator::Lock => {
+                let done = new_lock(caller, contexts, runtime, attempt);
+                end(calling, done, contexts, runtime, same_attempt)
+            }
+            WorldOperator::Condition => {
+                let done = new_condition(caller, contexts, runtime, attempt);
+                end(calling, done, contexts, runtime, same_attempt)
+            }
+            WorldOperator::Yield => {
+                let done = give_way();
+                end(calling, done, contexts, runtime, attempt)
+            }
         }
     }
 

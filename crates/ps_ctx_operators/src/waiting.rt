@@ -10,10 +10,10 @@ use ps_ctx::notes::Note;
 use ps_ctx::worlds::Calling;
 use ps_ctx_table::contexts::Contexts;
 use ps_ctx_table::members::Course;
-use ps_language::operators::Operator;
 use ps_mem::Memory;
 use ps_ops_operands::failure::NotMade;
 use ps_ops_state::lent::{Attempt, Runtime};
+use ps_step_outcome::world_operators::WorldOperator;
 
 /// A running context calls `wait`, whose element is taken: it frees its lock, waits for the
 /// condition, and its turn ends. Or its error is noted, and it settles: `stackunderflow`,
@@ -31,13 +31,13 @@ pub fn call_wait<M: Memory>(
 ) -> Result<Note, NotMade>
     requires runs { RunsAt caller contexts.old.table }
     requires steady { IsSteady (over_of M.heap M.grants runtime.old contexts.old) }
-    ensures { Calls Operator.Wait caller attempt shown result
+    ensures { Calls WorldOperator.Wait caller attempt shown result
         (over_of M.heap M.grants runtime.old contexts.old)
         (over_of M.heap M.grants runtime.new contexts.new) }
 {
     let calling = Calling {
         caller,
-        operator: Operator::Wait,
+        operator: WorldOperator::Wait,
     };
     let same_attempt = attempt;
     let member = contexts.table.get_mut(caller);

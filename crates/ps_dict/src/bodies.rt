@@ -72,6 +72,13 @@ pub(crate) fn complete_body<M: Memory>(
     Ok(())
 }
 
+/// How many pairs a body has, and for how many it has room.
+#[derive(Clone, Copy)]
+pub(crate) struct Size {
+    pub count: u32,
+    pub capacity: u32,
+}
+
 /// Writes the words of a whole body over those of a dictionary's body, and the number of its pairs:
 /// in a cycle one record each. The words are those of a body of its capacity, with so many pairs.
 pub(crate) fn write_over<M: Memory>(
@@ -113,47 +120,46 @@ pub(crate) fn write_over<M: Memory>(
     memory.store(slot, address, COUNT, &[number]);
 }
 
-/// Gives a dictionary a new body of these words, of a capacity, by one store of its fields: in a
+/// Gives a dictionary a new body of these words, of this size, by one store of its fields: in a
 /// cycle one record. The words are those of a body of that capacity, with so many pairs.
 pub(crate) fn write_new<M: Memory>(
     memory: &mut M,
     slot: Slot,
     address: u32,
-    count: u32,
-    capacity: u32,
+    size: Size,
     words: &[Word],
 )
     requires granted { 1 ≤ (M.grants memory.old).records slot }
-    requires words_granted { 2 + 3 * capacity ≤ (M.grants memory.old).words }
-    requires capacity { capacity ≤ capacity_limit }
+    requires words_granted { 2 + 3 * size.capacity ≤ (M.grants memory.old).words }
+    requires capacity { size.capacity ≤ capacity_limit }
     requires sound { IsSound (M.heap memory.old) }
     requires known { StandsAs (M.heap memory.old) Kind.Dictionary address 4 }
-    requires count { count ≡ length (take count (pairs_of_words words.now)) }
-    requires room { count ≤ capacity }
+    requires count { size.count ≡ length (take size.count (pairs_of_words words.now)) }
+    requires room { size.count ≤ size.capacity }
     requires held { AreValues (M.heap memory.old)
-        (words_of_pairs (take count (pairs_of_words words.now))) }
-    requires words { words.now ≡ whole_body (birth_at (M.heap memory.old)) capacity
-        (take count (pairs_of_words words.now)) }
+        (words_of_pairs (take size.count (pairs_of_words words.now))) }
+    requires words { words.now ≡ whole_body (birth_at (M.heap memory.old)) size.capacity
+        (take size.count (pairs_of_words words.now)) }
     ensures sound { IsSound (M.heap memory.new) }
     ensures keeps { Keeps (M.heap memory.old) (M.heap memory.new) }
     ensures grants { AfterChange (M.grants memory.old) (M.grants memory.new) slot 1
-        (2 + 3 * capacity) }
+        (2 + 3 * size.capacity) }
     ensures shows { (names : List (List ℕ)) (s : Store) → Shows (M.heap memory.old) names s
         → AreWithin (M.heap memory.old) names s
-        (words_of_pairs (take count (pairs_of_words words.now)))
+        (words_of_pairs (take size.count (pairs_of_words words.now)))
         → Shows (M.heap memory.new) names
         (with_dictionary s (birth_at (M.heap memory.old) address)
         (record (dictionary_at s (birth_at (M.heap memory.old) address)) {
           pairs = map (pair_of (birth_at (M.heap memory.old)) names)
-              (take count (pairs_of_words words.now));
-          capacity = capacity;
+              (take size.count (pairs_of_words words.now));
+          capacity = size.capacity;
         })) }
 {
     let access = memory.load(address, ACCESS);
-    let body = memory.alloc_body(address, 3 * capacity);
+    let body = memory.alloc_body(address, 3 * size.capacity);
     fill_words(memory, body, words);
-    let number = natural_word(count);
-    let room = natural_word(capacity);
+    let number = natural_word(size.count);
+    let room = natural_word(size.capacity);
     let reference = Word::literal(Content::Body(body));
     memory.store(slot, address, COUNT, &[number, room, access, reference]);
 }

@@ -16,7 +16,7 @@ ghost use Rattle.ps_dict.specs.Merges as merges;
 ghost use Rattle.ps_dict.specs.Merges.{body_plan, merge_plan_at, merge_planned, merge_words_at, merge_room, planned_words};
 ghost use Rattle.ps_dict.specs.Puts.{AfterChange};
 
-use crate::bodies::{complete_body, write_new, write_over};
+use crate::bodies::{Size, complete_body, write_new, write_over};
 use crate::dictionaries::{capacity, length};
 use crate::merges::{merge_words, merged_count};
 use crate::plans::{CAPACITY_LIMIT, next_capacity};
@@ -24,6 +24,15 @@ use ps_language::kinds::Kind;
 use ps_mem::{Memory, Slot};
 use ps_word::words::Word;
 use std::alloc::AllocError;
+
+/// Two dictionaries by their addresses: the pairs of one are put into the other.
+#[derive(Clone, Copy)]
+pub struct Merge {
+    /// The dictionary that the pairs go into.
+    pub to: u32,
+    /// The dictionary whose pairs these are.
+    pub from: u32,
+}
 
 /// What putting the pairs of one dictionary into another does.
 #[derive(Clone, Copy, Debug, PartialEq, Eq)]
@@ -127,66 +136,66 @@ fn plan_body<M: Memory>(
 /// body, and its growth was refused; it is empty then.
 pub fn plan_merge<M: Memory>(
     memory: &mut M,
-    to: u32,
-    from: u32,
+    merge: Merge,
     scratch: &mut Vec<Word>,
 ) -> Result<MergePlan, AllocError>
     requires sound { IsSound (M.heap memory.old) }
-    requires target { StandsAs (M.heap memory.old) Kind.Dictionary to 4 }
-    requires source { StandsAs (M.heap memory.old) Kind.Dictionary from 4 }
+    requires target { StandsAs (M.heap memory.old) Kind.Dictionary merge.to 4 }
+    requires source { StandsAs (M.heap memory.old) Kind.Dictionary merge.from 4 }
     requires empty { scratch.old.items ≡ [] }
     ensures heap { M.heap memory.new ≡ M.heap memory.old }
     ensures grants { M.grants memory.new ≡ M.grants memory.old }
-    ensures plan { IfOk result (λ plan. plan ≡ merge_plan_at (M.heap memory.old) to from) }
+    ensures plan { IfOk result
+        (λ plan. plan ≡ merge_plan_at (M.heap memory.old) merge.to merge.from) }
     ensures words { IfOk result
-        (λ plan. scratch.new.items ≡ merge_words_at (M.heap memory.old) to from plan) }
+        (λ plan. scratch.new.items ≡ merge_words_at (M.heap memory.old) merge.to merge.from plan) }
     ensures limit { IfOk result
         (λ plan. (count capacity : ℕ) → plan ≡ MergePlan.Grow count capacity
         → capacity ≤ capacity_limit) }
     ensures value { (names : List (List ℕ)) (s : Store) → Shows (M.heap memory.old) names s
         → AllPairs (λ first later. first ≢ later) names → IfOk result
-        (λ plan. plan ≡ merge_planned (dictionary_at s (birth_at (M.heap memory.old) to))
-        (dictionary_at s (birth_at (M.heap memory.old) from))) }
+        (λ plan. plan ≡ merge_planned (dictionary_at s (birth_at (M.heap memory.old) merge.to))
+        (dictionary_at s (birth_at (M.heap memory.old) merge.from))) }
     ensures full { (names : List (List ℕ)) (s : Store) → Shows (M.heap memory.old) names s
         → AllPairs (λ first later. first ≢ later) names → IfOk result
         (λ plan. (plan ≡ MergePlan.Full) ↔
-        (holding (dictionary_at s (birth_at (M.heap memory.old) to))
-        (put_pairs (dictionary_at s (birth_at (M.heap memory.old) to)).pairs
-        (dictionary_at s (birth_at (M.heap memory.old) from)).pairs) ≡ None)) }
+        (holding (dictionary_at s (birth_at (M.heap memory.old) merge.to))
+        (put_pairs (dictionary_at s (birth_at (M.heap memory.old) merge.to)).pairs
+        (dictionary_at s (birth_at (M.heap memory.old) merge.from)).pairs) ≡ None)) }
     ensures empty { OnErr result (scratch.new.items ≡ []) }
     ensures short { OnErr result
-        (vec_capacity scratch.old < merge_room (M.heap memory.old) to from) }
+        (vec_capacity scratch.old < merge_room (M.heap memory.old) merge.to merge.from) }
     ensures room { vec_capacity scratch.old ≤ vec_capacity scratch.new }
 {
-    if length(memory, from) == 0 {
+    if length(memory, merge.from) == 0 {
         return Ok(MergePlan::Keep);
     }
-    let capacity = capacity(memory, to);
-    merge_words(memory, to, from, scratch)?;
+    let capacity = capacity(memory, merge.to);
+    merge_words(memory, merge, scratch)?;
     plan_body(memory, capacity, scratch)
 }
 
 /// The plan of `plan_merge` by a count of the pairs, which takes no list.
-pub fn count_merge<M: Memory>(memory: &mut M, to: u32, from: u32) -> MergePlan
+pub fn count_merge<M: Memory>(memory: &mut M, merge: Merge) -> MergePlan
     requires sound { IsSound (M.heap memory.old) }
-    requires target { StandsAs (M.heap memory.old) Kind.Dictionary to 4 }
-    requires source { StandsAs (M.heap memory.old) Kind.Dictionary from 4 }
+    requires target { StandsAs (M.heap memory.old) Kind.Dictionary merge.to 4 }
+    requires source { StandsAs (M.heap memory.old) Kind.Dictionary merge.from 4 }
     ensures heap { M.heap memory.new ≡ M.heap memory.old }
     ensures grants { M.grants memory.new ≡ M.grants memory.old }
-    ensures plan { result ≡ merge_plan_at (M.heap memory.old) to from }
+    ensures plan { result ≡ merge_plan_at (M.heap memory.old) merge.to merge.from }
     ensures limit { (count capacity : ℕ) → result ≡ MergePlan.Grow count capacity
         → capacity ≤ capacity_limit }
     ensures value { (names : List (List ℕ)) (s : Store) → Shows (M.heap memory.old) names s
         → AllPairs (λ first later. first ≢ later) names
-        → result ≡ merge_planned (dictionary_at s (birth_at (M.heap memory.old) to))
-        (dictionary_at s (birth_at (M.heap memory.old) from)) }
+        → result ≡ merge_planned (dictionary_at s (birth_at (M.heap memory.old) merge.to))
+        (dictionary_at s (birth_at (M.heap memory.old) merge.from)) }
 {
-    let more = length(memory, from);
+    let more = length(memory, merge.from);
     if more == 0 {
         return MergePlan::Keep;
     }
-    let capacity = capacity(memory, to);
-    let count = merged_count(memory, to, from);
+    let capacity = capacity(memory, merge.to);
+    let count = merged_count(memory, merge);
     plan_of(count, capacity)
 }
 
@@ -197,33 +206,35 @@ pub fn count_merge<M: Memory>(memory: &mut M, to: u32, from: u32) -> MergePlan
 pub fn put_merged<M: Memory>(
     memory: &mut M,
     slot: Slot,
-    to: u32,
-    _from: u32,
+    merge: Merge,
     plan: MergePlan,
     words: &[Word],
 )
-    requires plan { plan ≡ merge_plan_at (M.heap memory.old) to _from }
+    requires plan { plan ≡ merge_plan_at (M.heap memory.old) merge.to merge.from }
     requires possible { plan ≢ MergePlan.Full }
-    requires words { words.now ≡ merge_words_at (M.heap memory.old) to _from plan }
+    requires words { words.now ≡ merge_words_at (M.heap memory.old) merge.to merge.from plan }
     requires granted { merges.records_of plan ≤ (M.grants memory.old).records slot }
     requires room { merges.words_of plan ≤ (M.grants memory.old).words }
     requires sound { IsSound (M.heap memory.old) }
-    requires target { StandsAs (M.heap memory.old) Kind.Dictionary to 4 }
-    requires source { StandsAs (M.heap memory.old) Kind.Dictionary _from 4 }
+    requires target { StandsAs (M.heap memory.old) Kind.Dictionary merge.to 4 }
+    requires source { StandsAs (M.heap memory.old) Kind.Dictionary merge.from 4 }
     ensures sound { IsSound (M.heap memory.new) }
     ensures keeps { Keeps (M.heap memory.old) (M.heap memory.new) }
     ensures grants { AfterChange (M.grants memory.old) (M.grants memory.new) slot
         (merges.records_of plan) (merges.words_of plan) }
     ensures shows { (names : List (List ℕ)) (s : Store) → Shows (M.heap memory.old) names s
         → AllPairs (λ first later. first ≢ later) names → (d : Dictionary)
-        → holding (dictionary_at s (birth_at (M.heap memory.old) to))
-        (put_pairs (dictionary_at s (birth_at (M.heap memory.old) to)).pairs
-        (dictionary_at s (birth_at (M.heap memory.old) _from)).pairs) ≡ Some d
-        → Shows (M.heap memory.new) names (with_dictionary s (birth_at (M.heap memory.old) to) d) }
+        → holding (dictionary_at s (birth_at (M.heap memory.old) merge.to))
+        (put_pairs (dictionary_at s (birth_at (M.heap memory.old) merge.to)).pairs
+        (dictionary_at s (birth_at (M.heap memory.old) merge.from)).pairs) ≡ Some d
+        → Shows (M.heap memory.new) names
+        (with_dictionary s (birth_at (M.heap memory.old) merge.to) d) }
 {
     match plan {
-        MergePlan::Rewrite { count } => write_over(memory, slot, to, count, words),
-        MergePlan::Grow { count, capacity } => write_new(memory, slot, to, count, capacity, words),
+        MergePlan::Rewrite { count } => write_over(memory, slot, merge.to, count, words),
+        MergePlan::Grow { count, capacity } => {
+            write_new(memory, slot, merge.to, Size { count, capacity }, words)
+        }
         MergePlan::Keep | MergePlan::Full => {}
     }
 }

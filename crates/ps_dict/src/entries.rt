@@ -132,34 +132,45 @@ impl Waiting {
     }
 }
 
+/// An entry as it is planned.
+#[derive(Clone, Copy)]
+struct PlannedEntry {
+    /// The key with its value.
+    entry: (Word, Word),
+    /// The place of the key, where the dictionary has it.
+    place: Option<u32>,
+    /// How many pairs more there is room for.
+    room: u32,
+}
+
 /// Puts in the value of a key that is there, with one record in a cycle; the pair of an absent key
 /// waits, where so many pairs have room.
 fn put_entry<M: Memory>(
     memory: &mut M,
     slot: Slot,
     address: u32,
-    place: Option<u32>,
-    room: u32,
-    entry: (Word, Word),
+    planned: PlannedEntry,
     waiting: &mut Waiting,
 )
-    requires granted { one_where_there place ≤ (M.grants memory.old).records slot }
+    requires granted { one_where_there planned.place ≤ (M.grants memory.old).records slot }
     requires sound { IsSound (M.heap memory.old) }
     requires known { StandsAs (M.heap memory.old) Kind.Dictionary address 4 }
-    requires place { (at : ℕ) → place ≡ Option.Some at → at < count_at (M.heap memory.old) address }
-    requires held { IsValue (M.heap memory.old) entry.1 }
+    requires place { (at : ℕ) → planned.place ≡ Option.Some at
+        → at < count_at (M.heap memory.old) address }
+    requires held { IsValue (M.heap memory.old) planned.entry.1 }
     requires few { waiting.old.count ≤ 4 }
-    ensures heap { M.heap memory.new ≡ with_value_at (M.heap memory.old) address place entry.1 }
+    ensures heap { M.heap memory.new ≡ with_value_at (M.heap memory.old) address
+        planned.place planned.entry.1 }
     ensures grants { AfterChange (M.grants memory.old) (M.grants memory.new) slot
-        (one_where_there place) 0 }
-    ensures words { take waiting.new.count waiting.new.words ≡ waiting_with place room entry
-        (take waiting.old.count waiting.old.words) }
+        (one_where_there planned.place) 0 }
+    ensures words { take waiting.new.count waiting.new.words ≡ waiting_with
+        planned.place planned.room planned.entry (take waiting.old.count waiting.old.words) }
     ensures most { waiting.new.count ≤ waiting.old.count + 2 }
 {
-    match place {
-        Some(place) => replace_value(memory, slot, address, place, entry.1),
-        None => if waiting.count / 2 < room {
-            waiting.add(entry);
+    match planned.place {
+        Some(place) => replace_value(memory, slot, address, place, planned.entry.1),
+        None => if waiting.count / 2 < planned.room {
+            waiting.add(planned.entry);
         },
     }
 }
@@ -241,32 +252,23 @@ pub fn put_error<M: Memory>(
         (with_error error command (birth_at (M.heap memory.old) address) s) }
 {
     let mut waiting = Waiting::none();
-    put_entry(
-        memory,
-        slot,
-        address,
-        plan.newerror,
-        plan.room,
-        entries.newerror,
-        &mut waiting,
-    );
-    put_entry(
-        memory,
-        slot,
-        address,
-        plan.errorname,
-        plan.room,
-        entries.errorname,
-        &mut waiting,
-    );
-    put_entry(
-        memory,
-        slot,
-        address,
-        plan.command,
-        plan.room,
-        entries.command,
-        &mut waiting,
-    );
+    let planned = PlannedEntry {
+        entry: entries.newerror,
+        place: plan.newerror,
+        room: plan.room,
+    };
+    put_entry(memory, slot, address, planned, &mut waiting);
+    let planned = PlannedEntry {
+        entry: entries.errorname,
+        place: plan.errorname,
+        room: plan.room,
+    };
+    put_entry(memory, slot, address, planned, &mut waiting);
+    let planned = PlannedEntry {
+        entry: entries.command,
+        place: plan.command,
+        room: plan.room,
+    };
+    put_entry(memory, slot, address, planned, &mut waiting);
     append_waiting(memory, slot, address, &waiting);
 }

@@ -13,6 +13,7 @@ ghost use Rattle.ps_dict.specs.Keys.{IsKey};
 ghost use Rattle.ps_dict.specs.Merges.{merged, merged_at};
 ghost use Rattle.ps_dict.specs.Places.{count_at, pairs_at, place_of};
 
+use crate::copies::Merge;
 use crate::dictionaries::{body, length, pair, position};
 use crate::keys::is_same_key;
 use ps_language::kinds::Kind;
@@ -40,26 +41,25 @@ fn place_among(words: &[Word], key: Word) -> Option<u32>
 /// the key twice.
 fn merged_place<M: Memory>(
     memory: &mut M,
-    to: u32,
-    from: u32,
+    merge: Merge,
     place: u32,
     key: Word,
     words: &[Word],
 ) -> Option<u32>
     requires sound { IsSound (M.heap memory.old) }
-    requires target { StandsAs (M.heap memory.old) Kind.Dictionary to 4 }
-    requires source { StandsAs (M.heap memory.old) Kind.Dictionary from 4 }
+    requires target { StandsAs (M.heap memory.old) Kind.Dictionary merge.to 4 }
+    requires source { StandsAs (M.heap memory.old) Kind.Dictionary merge.from 4 }
     requires held { IsValue (M.heap memory.old) key }
-    requires words { words.now ≡ words_of_pairs (merged (pairs_at (M.heap memory.old) to)
-        (take place (pairs_at (M.heap memory.old) from))) }
+    requires words { words.now ≡ words_of_pairs (merged (pairs_at (M.heap memory.old) merge.to)
+        (take place (pairs_at (M.heap memory.old) merge.from))) }
     ensures heap { M.heap memory.new ≡ M.heap memory.old }
     ensures grants { M.grants memory.new ≡ M.grants memory.old }
-    ensures answer { result ≡ place_of (merged (pairs_at (M.heap memory.old) to)
-        (take place (pairs_at (M.heap memory.old) from))) key }
+    ensures answer { result ≡ place_of (merged (pairs_at (M.heap memory.old) merge.to)
+        (take place (pairs_at (M.heap memory.old) merge.from))) key }
 {
-    match position(memory, to, key) {
+    match position(memory, merge.to, key) {
         Some(there) => Some(there),
-        None => match position(memory, from, key) {
+        None => match position(memory, merge.from, key) {
             Some(first) => if first < place {
                 place_among(words, key)
             } else {
@@ -74,29 +74,29 @@ fn merged_place<M: Memory>(
 /// `AllocError`: the list has no room for two words more, and its growth was refused.
 fn merge_pair<M: Memory>(
     memory: &mut M,
-    to: u32,
-    from: u32,
+    merge: Merge,
     place: u32,
     scratch: &mut Vec<Word>,
 ) -> Result<(), AllocError>
     requires sound { IsSound (M.heap memory.old) }
-    requires target { StandsAs (M.heap memory.old) Kind.Dictionary to 4 }
-    requires source { StandsAs (M.heap memory.old) Kind.Dictionary from 4 }
-    requires place { place < count_at (M.heap memory.old) from }
-    requires words { scratch.old.items ≡ words_of_pairs (merged (pairs_at (M.heap memory.old) to)
-        (take place (pairs_at (M.heap memory.old) from))) }
+    requires target { StandsAs (M.heap memory.old) Kind.Dictionary merge.to 4 }
+    requires source { StandsAs (M.heap memory.old) Kind.Dictionary merge.from 4 }
+    requires place { place < count_at (M.heap memory.old) merge.from }
+    requires words { scratch.old.items ≡ words_of_pairs
+        (merged (pairs_at (M.heap memory.old) merge.to)
+        (take place (pairs_at (M.heap memory.old) merge.from))) }
     ensures heap { M.heap memory.new ≡ M.heap memory.old }
     ensures grants { M.grants memory.new ≡ M.grants memory.old }
     ensures words { OnOk result (scratch.new.items ≡ words_of_pairs
-        (merged (pairs_at (M.heap memory.old) to)
-        (take (place + 1) (pairs_at (M.heap memory.old) from)))) }
+        (merged (pairs_at (M.heap memory.old) merge.to)
+        (take (place + 1) (pairs_at (M.heap memory.old) merge.from)))) }
     ensures full { OnErr result (vec_capacity scratch.old < length scratch.old.items + 2) }
     ensures room { vec_capacity scratch.old ≤ vec_capacity scratch.new }
 {
-    let Some((key, value)) = pair(memory, from, place) else {
+    let Some((key, value)) = pair(memory, merge.from, place) else {
         return Ok(());
     };
-    match merged_place(memory, to, from, place, key, scratch.as_slice()) {
+    match merged_place(memory, merge, place, key, scratch.as_slice()) {
         Some(there) => scratch[2 * there as usize + 1] = value,
         None => scratch.extend_from_slice(&[key, value])?,
     }
@@ -135,53 +135,53 @@ fn push_pairs<M: Memory>(
 /// empty still.
 pub(crate) fn merge_words<M: Memory>(
     memory: &mut M,
-    to: u32,
-    from: u32,
+    merge: Merge,
     scratch: &mut Vec<Word>,
 ) -> Result<(), AllocError>
     requires sound { IsSound (M.heap memory.old) }
-    requires target { StandsAs (M.heap memory.old) Kind.Dictionary to 4 }
-    requires source { StandsAs (M.heap memory.old) Kind.Dictionary from 4 }
+    requires target { StandsAs (M.heap memory.old) Kind.Dictionary merge.to 4 }
+    requires source { StandsAs (M.heap memory.old) Kind.Dictionary merge.from 4 }
     requires empty { scratch.old.items ≡ [] }
     ensures heap { M.heap memory.new ≡ M.heap memory.old }
     ensures grants { M.grants memory.new ≡ M.grants memory.old }
     ensures words { OnOk result (scratch.new.items ≡ words_of_pairs
-        (merged (pairs_at (M.heap memory.old) to) (pairs_at (M.heap memory.old) from))) }
+        (merged (pairs_at (M.heap memory.old) merge.to)
+        (pairs_at (M.heap memory.old) merge.from))) }
     ensures unchanged { OnErr result (scratch.new.items ≡ []) }
     ensures full { OnErr result (vec_capacity scratch.old <
-        2 * (count_at (M.heap memory.old) to + count_at (M.heap memory.old) from)) }
+        2 * (count_at (M.heap memory.old) merge.to + count_at (M.heap memory.old) merge.from)) }
     ensures room { vec_capacity scratch.old ≤ vec_capacity scratch.new }
 {
-    let count = length(memory, to);
-    let more = length(memory, from);
+    let count = length(memory, merge.to);
+    let more = length(memory, merge.from);
     scratch.reserve(2 * (count as usize + more as usize))?;
-    push_pairs(memory, to, scratch)?;
+    push_pairs(memory, merge.to, scratch)?;
     for place in 0..more {
-        merge_pair(memory, to, from, place, scratch)?;
+        merge_pair(memory, merge, place, scratch)?;
     }
     Ok(())
 }
 
 /// Whether the pair at a place of the source is one more among those that were put together before
 /// it. Both indexes answer.
-fn is_added<M: Memory>(memory: &mut M, to: u32, from: u32, place: u32) -> bool
+fn is_added<M: Memory>(memory: &mut M, merge: Merge, place: u32) -> bool
     requires sound { IsSound (M.heap memory.old) }
-    requires target { StandsAs (M.heap memory.old) Kind.Dictionary to 4 }
-    requires source { StandsAs (M.heap memory.old) Kind.Dictionary from 4 }
-    requires place { place < count_at (M.heap memory.old) from }
+    requires target { StandsAs (M.heap memory.old) Kind.Dictionary merge.to 4 }
+    requires source { StandsAs (M.heap memory.old) Kind.Dictionary merge.from 4 }
+    requires place { place < count_at (M.heap memory.old) merge.from }
     ensures heap { M.heap memory.new ≡ M.heap memory.old }
     ensures grants { M.grants memory.new ≡ M.grants memory.old }
-    ensures answer { length (merged (pairs_at (M.heap memory.old) to)
-        (take (place + 1) (pairs_at (M.heap memory.old) from)))
-        ≡ length (merged (pairs_at (M.heap memory.old) to)
-        (take place (pairs_at (M.heap memory.old) from))) + (if result then 1 else 0) }
+    ensures answer { length (merged (pairs_at (M.heap memory.old) merge.to)
+        (take (place + 1) (pairs_at (M.heap memory.old) merge.from)))
+        ≡ length (merged (pairs_at (M.heap memory.old) merge.to)
+        (take place (pairs_at (M.heap memory.old) merge.from))) + (if result then 1 else 0) }
 {
-    let Some((key, _)) = pair(memory, from, place) else {
+    let Some((key, _)) = pair(memory, merge.from, place) else {
         return false;
     };
-    match position(memory, to, key) {
+    match position(memory, merge.to, key) {
         Some(_) => false,
-        None => match position(memory, from, key) {
+        None => match position(memory, merge.from, key) {
             Some(first) => first >= place,
             None => true,
         },
@@ -190,18 +190,18 @@ fn is_added<M: Memory>(memory: &mut M, to: u32, from: u32, place: u32) -> bool
 
 /// How many pairs there are once those of one dictionary are put into another in order, counted
 /// without a list.
-pub(crate) fn merged_count<M: Memory>(memory: &mut M, to: u32, from: u32) -> u32
+pub(crate) fn merged_count<M: Memory>(memory: &mut M, merge: Merge) -> u32
     requires sound { IsSound (M.heap memory.old) }
-    requires target { StandsAs (M.heap memory.old) Kind.Dictionary to 4 }
-    requires source { StandsAs (M.heap memory.old) Kind.Dictionary from 4 }
+    requires target { StandsAs (M.heap memory.old) Kind.Dictionary merge.to 4 }
+    requires source { StandsAs (M.heap memory.old) Kind.Dictionary merge.from 4 }
     ensures heap { M.heap memory.new ≡ M.heap memory.old }
     ensures grants { M.grants memory.new ≡ M.grants memory.old }
-    ensures count { result ≡ length (merged_at (M.heap memory.old) to from) }
+    ensures count { result ≡ length (merged_at (M.heap memory.old) merge.to merge.from) }
 {
-    let pairs = length(memory, from);
-    let mut count = length(memory, to);
+    let pairs = length(memory, merge.from);
+    let mut count = length(memory, merge.to);
     for place in 0..pairs {
-        if is_added(memory, to, from, place) {
+        if is_added(memory, merge, place) {
             count += 1;
         }
     }

@@ -20,7 +20,7 @@ use crate::changes::natural_word;
 use crate::dictionaries::{COUNT, body, capacity, length};
 use crate::index::{first_place, free_in};
 use ps_language::kinds::Kind;
-use ps_mem::{Memory, Slot};
+use ps_mem::{FieldAt, Memory, Slot};
 use ps_word::words::Word;
 use std::alloc::AllocError;
 
@@ -56,7 +56,15 @@ fn move_down<M: Memory>(memory: &mut M, slot: Slot, address: u32, place: u32)
     let body = body(memory, address);
     let behind = count - place - 1;
     if behind != 0 {
-        memory.copy(slot, body, 2 * place + 2, body, 2 * place, 2 * behind);
+        let from = FieldAt {
+            address: body,
+            place: 2 * place + 2,
+        };
+        let to = FieldAt {
+            address: body,
+            place: 2 * place,
+        };
+        memory.copy(slot, from, to, 2 * behind);
     }
 }
 

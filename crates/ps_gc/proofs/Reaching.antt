@@ -1,7 +1,7 @@
 -- What the machine's roots reach is what they reach in the memory of the mutator's part.
 use Rattle.std.proofs.Common.{◌≡◌, ◌≢◌, ℕ, zero, suc, ◌<◌, ◌≤◌, Bool, true, false, nat_eq, List, [], ◌∷◌, length, map}
 use Rattle.std.proofs.Common.{Some, None, Option, option_map, refl, sym, ap, ◌∙◌, subst, inl, inr, arith}
-use Rattle.std.specs.Prelude.{slice_index, not, ◌&&◌, ◌||◌, ◌++◌}
+use Rattle.std.specs.Prelude.{slice_index, not, ◌&&◌, ◌++◌}
 use Rattle.std.specs.List.{Contains}
 use Rattle.ps_language.specs.declared.kinds.Kind.TheVariants.{Text, Body}
 use Rattle.ps_word.specs.Format.{address_in}
@@ -15,7 +15,7 @@ use Rattle.ps_core_machine.specs.declared.events.Event.TheVariants.{CycleStore}
 use Rattle.ps_core_machine.specs.declared.events.Pair.{Pair}
 use Rattle.ps_core_machine.specs.declared.events.Vm.{Vm}
 use Rattle.ps_core_machine.specs.declared.events.Gc.{Gc}
-use Rattle.ps_core_machine.specs.Objects.{among, addresses_named, object_at, pair_of}
+use Rattle.ps_core_machine.specs.Objects.{among, addresses_named, pair_of}
 use Rattle.ps_core_machine.specs.Conditions.{VmMay, GcMay, Permitted}
 use Rattle.ps_core_machine.specs.Steps.{State, is_open}
 use Rattle.ps_core_laws.specs.Reach.{Reach, NameTheSame}

@@ -17,7 +17,7 @@ use ps_core_laws::Closing;
 use ps_core_laws::collected::Counts;
 use ps_core_laws::sides::LoggedMemory;
 use ps_language::kinds::Kind;
-use ps_mem::{Memory, NeedFault, Permit};
+use ps_mem::{FieldAt, Memory, NeedFault, Permit};
 use ps_record::SLOTS;
 use ps_record::slots::Slot;
 use ps_table::{GcSeat, VmSeat};
@@ -116,8 +116,8 @@ impl<J: Naming> Memory for MutatorSeat<J> {
         self.vm.store(slot, address, place, items);
     }
 
-    fn copy(&mut self, slot: Slot, from: u32, from_place: u32, to: u32, to_place: u32, count: u32) {
-        self.vm.copy(slot, from, from_place, to, to_place, count);
+    fn copy(&mut self, slot: Slot, from: FieldAt, to: FieldAt, count: u32) {
+        self.vm.copy(slot, from, to, count);
     }
 
     fn permit(&mut self, slot: Slot, count: u32) -> Permit {

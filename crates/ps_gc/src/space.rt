@@ -17,7 +17,7 @@ use ps_core_laws::Closing;
 use ps_core_laws::collected::{CollectedMemory, Counts};
 use ps_core_laws::sides::LoggedMemory;
 use ps_language::kinds::Kind;
-use ps_mem::{Memory, NeedFault, Permit};
+use ps_mem::{FieldAt, Memory, NeedFault, Permit};
 use ps_record::SLOTS;
 use ps_record::slots::Slot;
 use ps_table::{GcSeat, Mirror, PlainWords, SharedWords, Words};
@@ -165,18 +165,10 @@ impl<W: Words> Memory for CollectedSpace<W> {
             .store(&mut gc.table, &mut gc.seat, slot, address, place, items);
     }
 
-    fn copy(&mut self, slot: Slot, from: u32, from_place: u32, to: u32, to_place: u32, count: u32) {
+    fn copy(&mut self, slot: Slot, from: FieldAt, to: FieldAt, count: u32) {
         let gc = &mut self.collector.gc;
-        self.mirror.copy(
-            &mut gc.table,
-            &mut gc.seat,
-            slot,
-            from,
-            from_place,
-            to,
-            to_place,
-            count,
-        );
+        self.mirror
+            .copy(&mut gc.table, &mut gc.seat, slot, from, to, count);
     }
 
     fn permit(&mut self, slot: Slot, count: u32) -> Permit {

@@ -6,7 +6,7 @@ ghost use Rattle.ps_mem.specs.Objects.{heap_in};
 ghost use Rattle.ps_mem.specs.Bounded.{Logs, bounded_space, bounded_grants, records_of, no_logs, open_logs, IsWithLogs};
 
 use crate::region::Region;
-use crate::{Memory, NeedFault, Permit};
+use crate::{FieldAt, Memory, NeedFault, Permit};
 use ps_language::kinds::Kind;
 use ps_record::SLOTS;
 use ps_record::slots::Slot;
@@ -225,9 +225,9 @@ impl Memory for BoundedMemory {
         self.region.write(address, place, items);
     }
 
-    fn copy(&mut self, slot: Slot, from: u32, from_place: u32, to: u32, to_place: u32, count: u32) {
-        self.log(slot, to);
-        self.region.copy(from, from_place, to, to_place, count);
+    fn copy(&mut self, slot: Slot, from: FieldAt, to: FieldAt, count: u32) {
+        self.log(slot, to.address);
+        self.region.copy(from, to, count);
     }
 
     /// Of this memory no log is drained but by `leave`: asking changes nothing.

@@ -61,6 +61,15 @@ pub enum Permit {
     LogClosed,
 }
 
+/// A field of an object.
+#[derive(Clone, Copy, Debug, PartialEq, Eq)]
+pub struct FieldAt {
+    /// Of the object, below 2^24.
+    pub address: u32,
+    /// How many of the object's fields are before it.
+    pub place: u32,
+}
+
 /// A memory of objects. An object stands at an address from its making on; its kind, birth number
 /// and number of fields never change, and
 /// no object moves or goes within a call of this trait. What stands may be renamed or collected
@@ -197,21 +206,21 @@ pub trait Memory {
         ensures logged { (grants self.new).put slot ≡ (grants self.old).put slot + records_put
             (grants self.old) address };
 
-    /// Copies `count` words, at least one, from the fields of one object from a place on to those
-    /// of another or the same, as if all were
-    /// read before any was written; else as `store`.
-    fn copy(&mut self, slot: Slot, from: u32, from_place: u32, to: u32, to_place: u32, count: u32)
+    /// Copies `count` words, at least one, from the fields of one object from a field on to those
+    /// of another or the same from a field on, as if all were read before any was written; else as
+    /// `store`.
+    fn copy(&mut self, slot: Slot, from: FieldAt, to: FieldAt, count: u32)
         requires granted { 1 ≤ (grants self.old).records slot }
         requires some { 1 ≤ count }
-        requires source { from_place + count ≤ length (fields_at (heap self.old) from) }
-        requires target { to_place + count ≤ length (fields_at (heap self.old) to) }
-        requires known { NamesStanding (heap self.old) to
-            (slice_range (fields_at (heap self.old) from) from_place (from_place + count)) }
-        ensures heap { heap self.new ≡ stored (heap self.old) to to_place
-            (slice_range (fields_at (heap self.old) from) from_place (from_place + count)) }
+        requires source { from.place + count ≤ length (fields_at (heap self.old) from.address) }
+        requires target { to.place + count ≤ length (fields_at (heap self.old) to.address) }
+        requires known { NamesStanding (heap self.old) to.address (slice_range
+            (fields_at (heap self.old) from.address) from.place (from.place + count)) }
+        ensures heap { heap self.new ≡ stored (heap self.old) to.address to.place (slice_range
+            (fields_at (heap self.old) from.address) from.place (from.place + count)) }
         ensures grants { AfterStore (grants self.old) (grants self.new) slot }
         ensures logged { (grants self.new).put slot ≡ (grants self.old).put slot + records_put
-            (grants self.old) to };
+            (grants self.old) to.address };
 
     /// Asks for so many records in the log of a slot, one for each `store` or `copy` to come.
     /// `LogClosed`: one at least is asked for, and

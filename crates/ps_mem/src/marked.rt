@@ -11,7 +11,7 @@ ghost use Rattle.ps_mem.specs.Plain.{plain_space};
 
 use crate::marks::{Mark, Marks};
 use crate::plain::PlainMemory;
-use crate::{Memory, NeedFault, Permit};
+use crate::{FieldAt, Memory, NeedFault, Permit};
 use ps_language::kinds::Kind;
 use ps_record::slots::Slot;
 use ps_word::headers::Header;
@@ -114,29 +114,30 @@ impl<M: Memory + Drop> Marked<M> {
 
     /// The same of words that are copied there from the fields of an object.
     #[inline(never)]
-    fn mark_copied(&mut self, from: u32, from_place: u32, to: u32, to_place: u32, count: u32)
-        requires source { from_place + count
-            ≤ length (fields_at (M.heap self.old.memory) from) }
-        requires target { to_place + count ≤ length (fields_at (M.heap self.old.memory) to) }
-        requires stands { IsSome (object_at (M.heap self.old.memory) to) }
+    fn mark_copied(&mut self, from: FieldAt, to: FieldAt, count: u32)
+        requires source { from.place + count
+            ≤ length (fields_at (M.heap self.old.memory) from.address) }
+        requires target { to.place + count
+            ≤ length (fields_at (M.heap self.old.memory) to.address) }
+        requires stands { IsSome (object_at (M.heap self.old.memory) to.address) }
         ensures heap { M.heap self.new.memory ≡ M.heap self.old.memory }
         ensures grants { M.grants self.new.memory ≡ M.grants self.old.memory }
         ensures widens { Widens self.old.marks.items.items self.new.marks.items.items }
-        ensures marked { AreMarked (M.heap self.old.memory) self.new.marks.items.items to
-            to_place (slice_range (fields_at (M.heap self.old.memory) from) from_place
-            (from_place + count)) }
+        ensures marked { AreMarked (M.heap self.old.memory) self.new.marks.items.items
+            to.address to.place (slice_range (fields_at (M.heap self.old.memory) from.address)
+            from.place (from.place + count)) }
     {
-        if from == to && from_place % 2 == to_place % 2 {
+        if from.address == to.address && from.place % 2 == to.place % 2 {
             return;
         }
-        let header = self.memory.header(to);
+        let header = self.memory.header(to.address);
         if header.kind != Kind::Body {
             return;
         }
-        let first = from as usize + from_place as usize;
+        let first = from.address as usize + from.place as usize;
         for index in 0..count {
-            let word = self.memory.load_at(from, first + index as usize);
-            self.mark_word(to, to_place + index, word);
+            let word = self.memory.load_at(from.address, first + index as usize);
+            self.mark_word(to.address, to.place + index, word);
         }
     }
 }
@@ -207,10 +208,9 @@ impl<M: Memory + Drop> Memory for Marked<M> {
         self.memory.store(slot, address, place, items);
     }
 
-    fn copy(&mut self, slot: Slot, from: u32, from_place: u32, to: u32, to_place: u32, count: u32) {
-        self.mark_copied(from, from_place, to, to_place, count);
-        self.memory
-            .copy(slot, from, from_place, to, to_place, count);
+    fn copy(&mut self, slot: Slot, from: FieldAt, to: FieldAt, count: u32) {
+        self.mark_copied(from, to, count);
+        self.memory.copy(slot, from, to, count);
     }
 
     #[inline]

@@ -6,7 +6,7 @@ ghost use Rattle.ps_mem.specs.Objects.{heap_in};
 ghost use Rattle.ps_mem.specs.Plain.{plain_space, plain_grants};
 
 use crate::region::{REGION_LIMIT, Region};
-use crate::{Memory, NeedFault, Permit};
+use crate::{FieldAt, Memory, NeedFault, Permit};
 use ps_language::kinds::Kind;
 use ps_record::slots::Slot;
 use ps_word::headers::Header;
@@ -111,16 +111,8 @@ impl Memory for PlainMemory {
         self.region.write(address, place, items);
     }
 
-    fn copy(
-        &mut self,
-        _slot: Slot,
-        from: u32,
-        from_place: u32,
-        to: u32,
-        to_place: u32,
-        count: u32,
-    ) {
-        self.region.copy(from, from_place, to, to_place, count);
+    fn copy(&mut self, _slot: Slot, from: FieldAt, to: FieldAt, count: u32) {
+        self.region.copy(from, to, count);
     }
 
     #[inline]

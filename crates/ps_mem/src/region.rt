@@ -6,6 +6,7 @@ ghost use Rattle.ps_mem.specs.Objects.{wanting, all_headers, heap_in};
 ghost use Rattle.ps_mem.specs.Heap.{Space, object_at, fields_at, birth_at, stored, made, made_body, IsKind, standing_words};
 ghost use Rattle.ps_mem.specs.Stands.{IsAddressed};
 
+use crate::FieldAt;
 use ps_language::kinds::Kind;
 use ps_raw::RawWords;
 use ps_word::headers::Header;
@@ -180,25 +181,25 @@ impl Region {
 
     /// Copies words from the fields of one object to those of another or the same, as if all were
     /// read first.
-    pub(crate) fn copy(&mut self, from: u32, from_place: u32, to: u32, to_place: u32, count: u32)
+    pub(crate) fn copy(&mut self, from: FieldAt, to: FieldAt, count: u32)
         requires some { 1 ≤ count }
         requires source { (space : Space)
-            → from_place + count ≤ length
-            (fields_at (heap_in self.old.words self.old.used self.old.next space) from) }
+            → from.place + count ≤ length
+            (fields_at (heap_in self.old.words self.old.used self.old.next space) from.address) }
         requires target { (space : Space)
-            → to_place + count ≤ length
-            (fields_at (heap_in self.old.words self.old.used self.old.next space) to) }
+            → to.place + count ≤ length
+            (fields_at (heap_in self.old.words self.old.used self.old.next space) to.address) }
         ensures heap { (space : Space)
             → heap_in self.new.words self.new.used self.new.next space ≡ stored
-            (heap_in self.old.words self.old.used self.old.next space) to to_place
-            (slice_range (fields_at (heap_in self.old.words self.old.used self.old.next space) from)
-            from_place (from_place + count)) }
+            (heap_in self.old.words self.old.used self.old.next space) to.address to.place
+            (slice_range (fields_at (heap_in self.old.words self.old.used self.old.next space)
+            from.address) from.place (from.place + count)) }
         ensures counts { (self.new.used ≡ self.old.used) × (self.new.next ≡ self.old.next)
             × (length self.new.words ≡ length self.old.words) }
     {
         self.words.copy_within(
-            from as usize + HEADERS + from_place as usize,
-            to as usize + HEADERS + to_place as usize,
+            from.address as usize + HEADERS + from.place as usize,
+            to.address as usize + HEADERS + to.place as usize,
             count as usize,
         );
     }

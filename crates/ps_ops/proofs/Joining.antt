@@ -1,7 +1,7 @@
 -- What put asks for, by its third operand.
 use Rattle.std.proofs.Common.{◌≡◌, ℕ, Bool, true, false, List, [], ◌∷◌, Some, None, refl, sym, ap, true≢false}
 use Rattle.std.specs.Prelude.{Option, is_some, option_map, if◌then◌else◌}
-use Rattle.ps_ops_arrays.specs.ArrayRows.{one_stored}
+use Rattle.ps_ops_sequences.specs.ArrayRows.{one_stored}
 use Rattle.ps_language.specs.Value.{Store}
 use Rattle.ps_stacks.specs.Tops.{first_three_of}
 use Rattle.ps_word.specs.declared.words.Word.{Word}

@@ -28,6 +28,10 @@ use Rattle.ps_ops_state.proofs.Forming.{cut_names}
 use Rattle.ps_ops_state.proofs.Meeting.{keeps-same, lasts-same, logs-same, stays_as, at_least-same, stays_then, logs_then}
 use Rattle.ps_step_outcome.specs.declared.turned.Turned.{Turned}
 use Rattle.ps_step_outcome.specs.declared.turned.Turned.TheVariants.{Goes, Calls}
+use Rattle.ps_step_outcome.specs.declared.world_operators.WorldOperator.{WorldOperator}
+use Rattle.ps_step_outcome.specs.declared.world_operators.WorldOperator.TheVariants.{CurrentContext, Fork, Join, Detach, Lock, Monitor}
+use Rattle.ps_step_outcome.specs.declared.world_operators.WorldOperator.TheVariants.{Condition, Wait, Notify, Yield, VmStatus, VmReclaim}
+use Rattle.ps_step_outcome.specs.WorldOperators.{operator_of}
 use Rattle.ps_step_outcome.specs.Turns.{Turns, break_turn, operator_error, nothing_more, deed_in, is_for_world, calling_of}
 use Rattle.ps_step_execute.specs.Values.{operated_asks, operated_turn}
 use Rattle.ps_ops.specs.Operators.{row_now, asked_of}
@@ -49,6 +53,57 @@ left_effect (stacking_row does) left around scene = absurd (true≢false (sym le
 left_effect (printing_row does) left around scene = absurd (true≢false (sym left))
 left_effect (around_row does) left around scene = absurd (true≢false (sym left))
 left_effect (scene_row does) left around scene = absurd (true≢false (sym left))
+
+-- each of them is left
+is_left : (world : WorldOperator) → is_for_world (operator_of world) ≡ true
+is_left CurrentContext = refl
+is_left Fork = refl
+is_left Join = refl
+is_left Detach = refl
+is_left Lock = refl
+is_left Monitor = refl
+is_left Condition = refl
+is_left Wait = refl
+is_left Notify = refl
+is_left Yield = refl
+is_left VmStatus = refl
+is_left VmReclaim = refl
+
+module _ (world : WorldOperator) (attempt : Attempt) (l : Lent) (good : IsGood l) where
+  left_here : Turns (operated_asks operator_asks (operator_of world))
+      (operated_turn (operator_of world)) attempt (Ok (Calls world)) l l
+  unfolding operated
+  left_here = record {
+    meets = λ store shown. record {
+      did = record {
+        after = store;
+        shown = shown;
+        lasts = lasts-same store;
+        leaves = refl;
+        is = λ machine printed address.
+            (λ i. after_turn attempt.refused machine
+            (effect_turn (operator_of world) (scene_of l store)
+            (left_effect (row_now (operator_of world)) (is_left world) (around_of l)
+            (scene_of l store) i)))
+            ∙ (λ i. leaves_to_world (calling_of world)
+            (record (with_scene (scene_of l store) running machine) { printed = printed i }));
+      };
+      logs = logs-same _ l.grants attempt.slot;
+    };
+    good = good;
+    keeps = keeps-same l.heap;
+    stays = stays_as l l refl refl refl refl (omega arith) (at_least-same _);
+    logs = logs-same _ l.grants attempt.slot;
+    framed = tt;
+    under_way = tt;
+  }
+
+  pub left_on : (operator : Operator) → operator_of world ≡ operator
+      → Turns (operated_asks operator_asks operator) (operated_turn operator) attempt
+      (Ok (Calls world)) l l
+  left_on operator is =
+      subst (λ (one : Operator). Turns (operated_asks operator_asks one) (operated_turn one) attempt
+      (Ok (Calls world)) l l) is left_here
 
 -- ---- for every store
 
@@ -89,31 +144,6 @@ module _ (operator : Operator) (attempt : Attempt) (l : Lent) where
     stays = acts.stays;
     logs = acts.logs;
     framed = acts.framed;
-    under_way = tt;
-  }
-
-  pub left_on : IsGood l → is_for_world operator ≡ true → TurnsTo (Ok (Calls operator)) l
-  unfolding operated
-  left_on good left = record {
-    meets = λ store shown. record {
-      did = record {
-        after = store;
-        shown = shown;
-        lasts = lasts-same store;
-        leaves = refl;
-        is = λ machine printed address.
-            (λ i. after_turn attempt.refused machine (effect_turn operator (scene_of l store)
-            (left_effect (row_now operator) left (around_of l) (scene_of l store) i)))
-            ∙ (λ i. leaves_to_world (calling_of operator)
-            (record (with_scene (scene_of l store) running machine) { printed = printed i }));
-      };
-      logs = logs-same _ l.grants attempt.slot;
-    };
-    good = good;
-    keeps = keeps-same l.heap;
-    stays = stays_as l l refl refl refl refl (omega arith) (at_least-same _);
-    logs = logs-same _ l.grants attempt.slot;
-    framed = tt;
     under_way = tt;
   }
 

@@ -9,7 +9,7 @@ use Rattle.ps_language.specs.declared.operators.Operator.TheVariants.{Store as S
 use Rattle.ps_language.specs.declared.operators.Operator.TheVariants.{NoAccess, ReadOnly, Cvs}
 use Rattle.ps_language.specs.Access.{dictionary_at}
 use Rattle.ps_language.specs.Acts.{effect_of}
-use Rattle.ps_ops_arrays.specs.ArrayRows.{topmost_count}
+use Rattle.ps_ops_sequences.specs.ArrayRows.{topmost_count}
 use Rattle.ps_language.specs.Dictionaries.{current, look_up}
 use Rattle.ps_language.specs.Effect.{Scene, Effect, unwinds, raises, calls}
 use Rattle.ps_language.specs.Equality.{key_of}

@@ -1,6 +1,6 @@
 -- What operators on composite objects of several types ask for, by the type.
 use Rattle.std.specs.Prelude.{Bool, false, is_some, List, ◌∷◌, if◌then◌else◌}
-use Rattle.ps_ops_arrays.specs.ArrayRows.{one_stored}
+use Rattle.ps_ops_sequences.specs.ArrayRows.{one_stored}
 use Rattle.ps_language.specs.Effect.{Scene}
 use Rattle.ps_language.specs.Readers.{as_dictionary}
 use Rattle.ps_language.specs.Value.{Value}

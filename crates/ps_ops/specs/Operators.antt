@@ -8,7 +8,7 @@ use Rattle.ps_language.specs.declared.operators.Operator.TheVariants.{NoAccess, 
 use Rattle.ps_language.specs.Effect.{Scene}
 use Rattle.ps_language.specs.Scan.{scan}
 use Rattle.ps_language.specs.Rows.{Row, row_of}
-use Rattle.ps_ops_arrays.specs.ArrayRows.{topmost_count}
+use Rattle.ps_ops_sequences.specs.ArrayRows.{topmost_count}
 use Rattle.ps_ops_sequences.specs.Asks.{putinterval_asks, reduce_asks, search_asks}
 use Rattle.ps_ops_values.specs.Asks.{cvs_asks}
 use Rattle.ps_ops_dictionaries.specs.Asks.{def_asks, end_dict_asks, store_asks, undef_asks}

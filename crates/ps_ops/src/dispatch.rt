@@ -9,7 +9,6 @@ use crate::exits::exit;
 use crate::joins::{copy, get, put};
 use ps_language::operators::Operator;
 use ps_mem::Memory;
-use ps_ops_arrays::{arrays, makes};
 use ps_ops_control::control;
 use ps_ops_control::frames::Cause;
 use ps_ops_dictionaries::errors::error_dictionary;
@@ -19,6 +18,8 @@ use ps_ops_dictionaries::reads::maxlength;
 use ps_ops_dictionaries::removals::undef;
 use ps_ops_dictionaries::{definitions, finds, stack as dictionaries};
 use ps_ops_operands::{arithmetic, logic, stack_operators};
+use ps_ops_sequences::array_makes::{array, end_array};
+use ps_ops_sequences::arrays;
 use ps_ops_sequences::copies::putinterval;
 use ps_ops_sequences::elements::astore;
 use ps_ops_sequences::intervals::getinterval;
@@ -26,10 +27,10 @@ use ps_ops_sequences::lengths::length;
 use ps_ops_sequences::loops::forall;
 use ps_ops_sequences::reductions::{noaccess, readonly};
 use ps_ops_sequences::searches::search;
+use ps_ops_sequences::string_makes::string;
+use ps_ops_sequences::string_searches::anchorsearch;
 use ps_ops_state::breaks::{Break, made, tried};
 use ps_ops_state::lent::{Attempt, Context, Runtime};
-use ps_ops_strings::makes::string;
-use ps_ops_strings::searches::anchorsearch;
 use ps_ops_types::types::type_of;
 use ps_ops_types::{access, attributes};
 use ps_ops_values::equality::equality;
@@ -115,13 +116,13 @@ pub fn operate<M: Memory>(
             attempt.slot,
             attempt.refused,
         )),
-        Operator::Array => tried(makes::array(
+        Operator::Array => tried(array(
             &mut context.operands,
             &mut runtime.memory,
             attempt.slot,
             attempt.refused,
         )),
-        Operator::EndArray => tried(makes::end_array(
+        Operator::EndArray => tried(end_array(
             &mut context.operands,
             &mut runtime.memory,
             attempt.slot,

@@ -6,8 +6,8 @@
 //!   own. Most crates of operators don't stand on each other, so they are proved side by side.
 //! - `get`, `put` and `copy` test the container once and call the operator of its type, whose
 //!   contract has the whole row under that case.
-//! - `Operators` answers an operator of the world before its `match` (`is_for_world`), so whoever
-//!   makes steps of one context needs no world.
+//! - `Operators` answers an operator of the world before its `match` (`WorldOperator::of`), so
+//!   whoever makes steps of one context needs no world.
 //! - What raises no error on operands alone is done in `operate_ahead`, and what neither sees nor
 //!   changes frames in `operate_under`. What raises is found twice, and such an operator has two
 //!   places.

@@ -1,9 +1,7 @@
 //! The operators of the language, for whoever executes values (PLRM2, 8 'Operators').
 
-ghost use Rattle.std.specs.Prelude.{◌≡◌};
 ghost use Rattle.ps_ops.specs.Few.{operator_few};
 ghost use Rattle.ps_ops.specs.Turns.{operator_asks};
-ghost use Rattle.ps_step_outcome.specs.Turns as turns;
 
 use crate::turns::operated;
 use crate::{ahead, under};
@@ -16,29 +14,7 @@ use ps_ops_state::lent::{Attempt, Context, Runtime};
 use ps_step_execute::operates::Operate;
 use ps_step_execute::under::Under;
 use ps_step_outcome::turned::Turned;
-
-/// Whether an operator is left to the world: one on contexts or locks, or one that is shown the
-/// memory.
-#[inline]
-fn is_for_world(operator: Operator) -> bool
-    ensures { result ≡ turns.is_for_world operator }
-{
-    match operator {
-        Operator::CurrentContext
-        | Operator::Fork
-        | Operator::Join
-        | Operator::Detach
-        | Operator::Lock
-        | Operator::Monitor
-        | Operator::Condition
-        | Operator::Wait
-        | Operator::Notify
-        | Operator::Yield
-        | Operator::VmStatus
-        | Operator::VmReclaim => true,
-        _ => false,
-    }
-}
+use ps_step_outcome::world_operators::WorldOperator;
 
 /// The operators of the language.
 #[derive(Clone, Copy, Debug, PartialEq, Eq)]
@@ -49,14 +25,13 @@ impl Operate for Operators {
 
     /// One on operands alone, or one that enters a procedure.
     #[inline(always)]
-    fn operate_ahead(&self, operator: Operator, operands: &mut Operands, may_enter: bool) -> Ahead {
+    fn operate_ahead(operator: Operator, operands: &mut Operands, may_enter: bool) -> Ahead {
         ahead::operate_ahead(operator, operands, may_enter)
     }
 
     /// One that programs call often.
     #[inline(always)]
     fn operate_under<M: Memory>(
-        &self,
         operator: Operator,
         context: &mut Context,
         runtime: &mut Runtime<M>,
@@ -68,14 +43,13 @@ impl Operate for Operators {
     /// One that is left to the world is handed up; every other one acts.
     #[inline(always)]
     fn operate<M: Memory>(
-        &self,
         operator: Operator,
         context: &mut Context,
         runtime: &mut Runtime<M>,
         attempt: Attempt,
     ) -> Result<Turned, NotMade> {
-        if is_for_world(operator) {
-            return Ok(Turned::Calls(operator));
+        if let Some(left) = WorldOperator::of(operator) {
+            return Ok(Turned::Calls(left));
         }
         operated(operator, context, runtime, attempt)
     }

@@ -8,14 +8,15 @@ ghost use Rattle.ps_ops.specs.Alone.{ActsUnder, came_under};
 use crate::joins::{get, put};
 use ps_language::operators::Operator;
 use ps_mem::{Memory, Slot};
-use ps_ops_arrays::{arrays, makes};
 use ps_ops_dictionaries::definitions::def;
 use ps_ops_dictionaries::finds::{known, load};
 use ps_ops_dictionaries::stack::{begin, end};
+use ps_ops_sequences::array_makes::{array, end_array};
+use ps_ops_sequences::arrays;
 use ps_ops_sequences::lengths::length;
+use ps_ops_sequences::string_makes::string;
 use ps_ops_state::breaks::{Break, made, tried};
 use ps_ops_state::lent::{Attempt, Context, Runtime};
-use ps_ops_strings::makes::string;
 use ps_step_execute::under::Under;
 
 /// What an operator came to, by its outcome.
@@ -54,11 +55,11 @@ pub fn operate_under<M: Memory>(
         Operator::Length => came(length(context, runtime)),
         Operator::Aload => came(made(arrays::aload(&mut context.operands, &mut runtime.memory))),
         Operator::Array => {
-            let outcome = makes::array(&mut context.operands, &mut runtime.memory, slot, false);
+            let outcome = array(&mut context.operands, &mut runtime.memory, slot, false);
             came(tried(outcome))
         }
         Operator::EndArray => {
-            let outcome = makes::end_array(&mut context.operands, &mut runtime.memory, slot, false);
+            let outcome = end_array(&mut context.operands, &mut runtime.memory, slot, false);
             came(tried(outcome))
         }
         Operator::MakeString => {

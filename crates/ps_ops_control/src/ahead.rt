@@ -14,7 +14,7 @@ ghost use Rattle.ps_ops_control.specs.Controls.{IsReadyFor, stacks};
 ghost use Rattle.ps_ops_control.specs.Frames.{IsCourse};
 ghost use Rattle.ps_ops_control.specs.Turns.{words_of, IsPushed};
 
-use crate::frames::{Frame, Frames};
+use crate::frames::{ForLoop, ForallLoop, Frame, Frames};
 use crate::readers::boolean_of;
 use crate::turns::{TurnOperands, control_word, is_past, leave};
 use ps_language::operators::Operator;
@@ -112,19 +112,12 @@ pub fn repeat_ahead(operands: &Operands, frames: &mut Frames, count: usize, body
 /// Writes the control value of the next turn into the topmost frame, in place, and pushes that of
 /// this turn. The frame is found first, so that no load of it is made again behind the push.
 #[inline(always)]
-fn push_control(
-    operands: &mut Operands,
-    frames: &mut Frames,
-    control: i64,
-    increment: i32,
-    limit: i32,
-    body: Part,
-    next: i64,
-    word: Word,
-)
-    requires top { first_of frames.old ≡ Some (Frame.For control increment limit body) }
+fn push_control(operands: &mut Operands, frames: &mut Frames, state: ForLoop, next: i64, word: Word)
+    requires top { first_of frames.old ≡ Some (Frame.For state.control state.increment
+        state.limit state.body) }
     requires room { length operands.old < 500 }
-    ensures frames { frames.new ≡ Frame.For next increment limit body ∷ drop 1 frames.old }
+    ensures frames { frames.new ≡ Frame.For next state.increment state.limit state.body
+        ∷ drop 1 frames.old }
     ensures operands { operands.new ≡ word ∷ operands.old }
 {
     if let Frame::For { control, .. } = frames.top_mut() {
@@ -135,16 +128,10 @@ fn push_control(
 
 /// A turn of `for`, which pushes the control value, or its end past the limit.
 #[inline(always)]
-pub fn for_ahead(
-    operands: &mut Operands,
-    frames: &mut Frames,
-    control: i64,
-    increment: i32,
-    limit: i32,
-    body: Part,
-) -> Ahead
-    requires top { first_of frames.old ≡ Some (Frame.For control increment limit body) }
-    requires course { IsCourse control increment }
+pub fn for_ahead(operands: &mut Operands, frames: &mut Frames, state: ForLoop) -> Ahead
+    requires top { first_of frames.old ≡ Some (Frame.For state.control state.increment
+        state.limit state.body) }
+    requires course { IsCourse state.control state.increment }
     ensures turns { (h : Heap) (size : ℕ) → IsReadyFor h size (stacks operands.old frames.old)
         → TurnsAhead Operator.For result h size (stacks operands.old frames.old)
         (stacks operands.new frames.new) }
@@ -152,26 +139,24 @@ pub fn for_ahead(
     ensures operands { OnLeft result (operands.new ≡ operands.old) }
     ensures frames { OnLeft result (frames.new ≡ frames.old) }
 {
-    if is_past(control, increment, limit) {
+    if is_past(state.control, state.increment, state.limit) {
         leave(frames);
         return Ahead::Goes;
     }
-    if !may_enter(operands, frames, 1, body) {
+    if !may_enter(operands, frames, 1, state.body) {
         return Ahead::Left;
     }
-    let next = control + increment as i64;
-    let word = control_word(control);
-    push_control(
-        operands, frames, control, increment, limit, body, next, word,
-    );
-    Ahead::Enters(body)
+    let next = state.control + state.increment as i64;
+    let word = control_word(state.control);
+    push_control(operands, frames, state, next, word);
+    Ahead::Enters(state.body)
 }
 
 /// Writes the place of the next element into the topmost frame, in place.
 #[inline(always)]
-fn set_place(frames: &mut Frames, over: Word, at: usize, body: Part, next: usize)
-    requires top { first_of frames.old ≡ Some (Frame.Forall over at body) }
-    ensures { frames.new ≡ Frame.Forall over next body ∷ drop 1 frames.old }
+fn set_place(frames: &mut Frames, state: ForallLoop, next: usize)
+    requires top { first_of frames.old ≡ Some (Frame.Forall state.over state.at state.body) }
+    ensures { frames.new ≡ Frame.Forall state.over next state.body ∷ drop 1 frames.old }
 {
     if let Frame::Forall { at, .. } = frames.top_mut() {
         *at = next;
@@ -183,27 +168,25 @@ fn set_place(frames: &mut Frames, over: Word, at: usize, body: Part, next: usize
 pub fn forall_ahead(
     operands: &mut Operands,
     frames: &mut Frames,
-    over: Word,
-    at: usize,
-    body: Part,
+    state: ForallLoop,
     pushed: TurnOperands,
 ) -> Ahead
-    requires top { first_of frames.old ≡ Some (Frame.Forall over at body) }
-    requires place { at < 2 ^ 32 }
+    requires top { first_of frames.old ≡ Some (Frame.Forall state.over state.at state.body) }
+    requires place { state.at < 2 ^ 32 }
     ensures turns { (h : Heap) (size : ℕ) → IsReadyFor h size (stacks operands.old frames.old)
-        → IsPushed h over at (Some pushed)
+        → IsPushed h state.over state.at (Some pushed)
         → TurnsAhead Operator.Forall result h size (stacks operands.old frames.old)
         (stacks operands.new frames.new) }
     ensures room { HasRoom 2 result frames.new }
     ensures operands { OnLeft result (operands.new ≡ operands.old) }
     ensures frames { OnLeft result (frames.new ≡ frames.old) }
 {
-    if !may_enter(operands, frames, pushed.count(), body) {
+    if !may_enter(operands, frames, pushed.count(), state.body) {
         return Ahead::Left;
     }
-    set_place(frames, over, at, body, at + 1);
+    set_place(frames, state, state.at + 1);
     pushed.push(operands);
-    Ahead::Enters(body)
+    Ahead::Enters(state.body)
 }
 
 // ---- operators

@@ -15,6 +15,30 @@ pub enum Source {
     Text(Part),
 }
 
+/// The state of a `for` loop.
+#[derive(Clone, Copy)]
+pub struct ForLoop {
+    /// The control value of the next turn, which may lie one increment past 32 bits.
+    pub control: i64,
+    /// What each turn adds to the control value.
+    pub increment: i32,
+    /// The last control value that has a turn.
+    pub limit: i32,
+    /// The procedure that each turn enters.
+    pub body: Part,
+}
+
+/// The state of a `forall` loop.
+#[derive(Clone, Copy)]
+pub struct ForallLoop {
+    /// An array, a string or a dictionary.
+    pub over: Word,
+    /// The place of its next element.
+    pub at: usize,
+    /// The procedure that each turn enters.
+    pub body: Part,
+}
+
 /// What is being executed.
 #[derive(Clone, Copy, Debug, PartialEq, Eq)]
 pub enum Frame {

@@ -15,7 +15,7 @@ ghost use Rattle.ps_ops_control.specs.Frames.{IsCourse};
 ghost use Rattle.ps_ops_control.specs.Controls.{IsReadyFor, stacks};
 ghost use Rattle.ps_ops_control.specs.Turns.{words_of, IsTurn, IsTurnHeld, IsPushed, Turns};
 
-use crate::frames::{Frame, Frames, push_frame, replace_top};
+use crate::frames::{ForLoop, ForallLoop, Frame, Frames, push_frame, replace_top};
 use ps_language::errors::ErrorName;
 use ps_language::operators::Operator;
 use ps_ops_operands::plain::push_within;
@@ -185,31 +185,29 @@ pub(crate) fn control_word(control: i64) -> Word
 pub fn for_turn(
     operands: &mut Operands,
     frames: &mut Frames,
-    control: i64,
-    increment: i32,
-    limit: i32,
-    body: Part,
+    state: ForLoop,
 ) -> Result<(), ErrorName>
-    requires top { first_of frames.old ≡ Some (Frame.For control increment limit body) }
-    requires course { IsCourse control increment }
+    requires top { first_of frames.old ≡ Some (Frame.For state.control state.increment
+        state.limit state.body) }
+    requires course { IsCourse state.control state.increment }
     ensures turns { (h : Heap) (size : ℕ) → IsReadyFor h size (stacks operands.old frames.old)
         → Turns Operator.For result h size (stacks operands.old frames.old)
         (stacks operands.new frames.new) }
     ensures operands { OnErr result (operands.new ≡ operands.old) }
     ensures frames { OnErr result (frames.new ≡ frames.old) }
 {
-    if is_past(control, increment, limit) {
+    if is_past(state.control, state.increment, state.limit) {
         leave(frames);
         return Ok(());
     }
     let left = Frame::For {
-        control: control + increment as i64,
-        increment,
-        limit,
-        body,
+        control: state.control + state.increment as i64,
+        increment: state.increment,
+        limit: state.limit,
+        body: state.body,
     };
-    let pushed = TurnOperands::One(control_word(control));
-    go_on(operands, frames, pushed, left, body)
+    let pushed = TurnOperands::One(control_word(state.control));
+    go_on(operands, frames, pushed, left, state.body)
 }
 
 /// A turn of `forall`, which pushes what stands at its place, or its end where nothing does. Raises
@@ -217,15 +215,13 @@ pub fn for_turn(
 pub fn forall_turn(
     operands: &mut Operands,
     frames: &mut Frames,
-    over: Word,
-    at: usize,
-    body: Part,
+    state: ForallLoop,
     pushed: Option<TurnOperands>,
 ) -> Result<(), ErrorName>
-    requires top { first_of frames.old ≡ Some (Frame.Forall over at body) }
-    requires place { at < 2 ^ 32 }
+    requires top { first_of frames.old ≡ Some (Frame.Forall state.over state.at state.body) }
+    requires place { state.at < 2 ^ 32 }
     ensures turns { (h : Heap) (size : ℕ) → IsReadyFor h size (stacks operands.old frames.old)
-        → IsPushed h over at pushed
+        → IsPushed h state.over state.at pushed
         → Turns Operator.Forall result h size (stacks operands.old frames.old)
         (stacks operands.new frames.new) }
     ensures operands { OnErr result (operands.new ≡ operands.old) }
@@ -236,9 +232,9 @@ pub fn forall_turn(
         return Ok(());
     };
     let left = Frame::Forall {
-        over,
-        at: at + 1,
-        body,
+        over: state.over,
+        at: state.at + 1,
+        body: state.body,
     };
-    go_on(operands, frames, pushed, left, body)
+    go_on(operands, frames, pushed, left, state.body)
 }

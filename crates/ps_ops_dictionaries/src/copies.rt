@@ -15,7 +15,7 @@ ghost use Rattle.ps_ops_state.specs.Lent.{lent_of, IsGood};
 ghost use Rattle.ps_ops_dictionaries.specs.Asks.{copy_asks};
 
 use crate::puts::asked;
-use ps_dict::copies::{MergePlan, count_merge, plan_merge, put_merged};
+use ps_dict::copies::{Merge, MergePlan, count_merge, plan_merge, put_merged};
 use ps_dict::dictionaries::{access, length};
 use ps_dict::plans::CAPACITY_LIMIT;
 use ps_language::errors::ErrorName;
@@ -30,27 +30,28 @@ use ps_word::words::Word;
 /// Whether the pairs of one dictionary may be put into another. Raises `limitcheck` where they
 /// would be too many, and `VMerror` in a refused step that would make a new body. They are counted
 /// only where one of the two may come.
-fn test_merge<M: Memory>(memory: &mut M, refused: bool, to: u32, from: u32) -> Result<(), ErrorName>
+fn test_merge<M: Memory>(memory: &mut M, refused: bool, merge: Merge) -> Result<(), ErrorName>
     requires sound { IsSound (M.heap memory.old) }
-    requires target { StandsAs (M.heap memory.old) Kind.Dictionary to 4 }
-    requires source { StandsAs (M.heap memory.old) Kind.Dictionary from 4 }
+    requires target { StandsAs (M.heap memory.old) Kind.Dictionary merge.to 4 }
+    requires source { StandsAs (M.heap memory.old) Kind.Dictionary merge.from 4 }
     ensures heap { M.heap memory.new ≡ M.heap memory.old }
     ensures grants { M.grants memory.new ≡ M.grants memory.old }
-    ensures possible { OnOk result (merge_plan_at (M.heap memory.old) to from ≢ MergePlan.Full) }
+    ensures possible { OnOk result
+        (merge_plan_at (M.heap memory.old) merge.to merge.from ≢ MergePlan.Full) }
     ensures room { OnOk result (IsTrue refused
-        → merges.words_of (merge_plan_at (M.heap memory.old) to from) ≡ 0) }
+        → merges.words_of (merge_plan_at (M.heap memory.old) merge.to merge.from) ≡ 0) }
     ensures error { IfErr result (λ error.
         ((error ≡ ErrorName.LimitCheck)
-        × (merge_plan_at (M.heap memory.old) to from ≡ MergePlan.Full))
+        × (merge_plan_at (M.heap memory.old) merge.to merge.from ≡ MergePlan.Full))
         ⊎ ((error ≡ ErrorName.VmError)
-        × (merge_plan_at (M.heap memory.old) to from ≢ MergePlan.Full)
+        × (merge_plan_at (M.heap memory.old) merge.to merge.from ≢ MergePlan.Full)
         × (refused ≡ true)
-        × (0 < merges.words_of (merge_plan_at (M.heap memory.old) to from)))) }
+        × (0 < merges.words_of (merge_plan_at (M.heap memory.old) merge.to merge.from)))) }
 {
-    if !refused && length(memory, to) + length(memory, from) <= CAPACITY_LIMIT {
+    if !refused && length(memory, merge.to) + length(memory, merge.from) <= CAPACITY_LIMIT {
         return Ok(());
     }
-    let plan = count_merge(memory, to, from);
+    let plan = count_merge(memory, merge);
     if matches!(plan, MergePlan::Full) {
         return Err(ErrorName::LimitCheck);
     }
@@ -87,13 +88,13 @@ pub fn copy_dictionary<M: Memory>(
     if !may_copy(readable, writable) {
         return Err(Break::Raises(ErrorName::InvalidAccess));
     }
-    if let Err(error) = test_merge(&mut runtime.memory, attempt.refused, to, from) {
+    let merge = Merge { to, from };
+    if let Err(error) = test_merge(&mut runtime.memory, attempt.refused, merge) {
         return Err(Break::Raises(error));
     }
     let Ok(plan) = plan_merge(
         &mut runtime.memory,
-        to,
-        from,
+        merge,
         &mut runtime.shared.scratch.words,
     ) else {
         return Err(Break::NotMade(NotMade::Memory));
@@ -108,8 +109,7 @@ pub fn copy_dictionary<M: Memory>(
             put_merged(
                 &mut runtime.memory,
                 attempt.slot,
-                to,
-                from,
+                merge,
                 plan,
                 runtime.shared.scratch.words.as_slice(),
             );

@@ -37,10 +37,10 @@ use ps_names::{NAME_LIMIT, NAMES_LIMIT, Names};
 use ps_ops_operands::Operands;
 use ps_ops_operands::failure::NotMade;
 use ps_ops_operands::permits::granted;
+use ps_ops_operands::readers::string_of;
 use ps_ops_operands::stack_operators::mark_depth;
 use ps_ops_state::breaks::Break;
 use ps_ops_state::lent::{Attempt, Context, Runtime};
-use ps_ops_strings::readers::string_of;
 use ps_step_lookup::keys::{Key, form_key, is_null, is_readable_key, read_key};
 use ps_word::words::Word;
 

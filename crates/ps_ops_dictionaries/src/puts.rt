@@ -28,9 +28,9 @@ use ps_names::Names;
 use ps_ops_operands::access::is_writable;
 use ps_ops_operands::failure::NotMade;
 use ps_ops_operands::permits::{MOST_RECORDS, granted, permitted};
+use ps_ops_operands::readers::string_of;
 use ps_ops_state::breaks::Break;
 use ps_ops_state::lent::{Attempt, Context, Runtime};
-use ps_ops_strings::readers::string_of;
 use ps_step_lookup::keys::{Key, form_key, name_word, read_key};
 use ps_word::words::Word;
 

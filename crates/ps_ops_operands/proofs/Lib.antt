@@ -14,3 +14,4 @@ pub mod Makers
 pub mod ReasonLaws
 pub mod Tops
 pub mod Changed
+pub mod Intervals

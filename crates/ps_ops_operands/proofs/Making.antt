@@ -4,6 +4,7 @@ use Rattle.std.specs.Prelude.{◌==◌, not, if◌then◌else◌}
 use Rattle.std.proofs.lemmas.Bool.Decides.{nat_tests}
 use Rattle.std.proofs.lemmas.List.{length-append}
 use Rattle.ps_language.specs.declared.access.Access.TheVariants.{Unlimited}
+use Rattle.ps_language.specs.declared.kinds.Kind.TheVariants.{Array as ArrayKind, Text as TextKind}
 use Rattle.ps_language.specs.declared.errors.ErrorName.TheVariants.{VmError}
 use Rattle.ps_language.specs.Value.{Value, Object, array_object, string_object, dictionary_object, lock_object, condition_object, Store}
 use Rattle.ps_language.specs.Outcome.{Outcome, fails, Change}
@@ -16,6 +17,7 @@ use Rattle.ps_word.specs.declared.words.Word.{Word}
 use Rattle.ps_word.specs.declared.values.Part.{Part}
 use Rattle.ps_mem.specs.Heap.{Heap, birth_at}
 use Rattle.ps_mem.specs.Keeps.{Keeps}
+use Rattle.ps_mem.specs.References.{StandsAs, words_for}
 use Rattle.ps_mem.specs.Meaning.{value_of, part_of}
 use Rattle.ps_mem.specs.Shows.{IsValue, AreValues, IsSound, IsReady, IsWithin, AreWithin, Shows}
 use Rattle.ps_mem.proofs.KeepsLemmas.{AreValues-kept, AreWithin-kept, values_of-kept, known_values}
@@ -45,6 +47,23 @@ part_of-whole births part count birth is born =
       count = p.length;
       access = p.access;
     }) is ∙ ap (λ (b : ℕ). whole b count) born
+
+-- all of an array that stands
+pub array_stands_whole : (now : Heap) (part : Part) (count : ℕ)
+    → part ≡ whole_part part.address count
+    → StandsAs now ArrayKind part.address count
+    → StandsAs now ArrayKind part.address (part.offset + part.length)
+array_stands_whole now part count is stands =
+    subst (StandsAs now ArrayKind part.address) (sym (whole_part-end part count is)) stands
+
+-- all of a string that stands
+pub string_stands_whole : (now : Heap) (part : Part) (count : ℕ)
+    → part ≡ whole_part part.address count
+    → StandsAs now TextKind part.address (words_for count)
+    → StandsAs now TextKind part.address (words_for (part.offset + part.length))
+string_stands_whole now part count is stands =
+    subst (λ n. StandsAs now TextKind part.address (words_for n))
+    (sym (whole_part-end part count is)) stands
 
 -- ---- made
 

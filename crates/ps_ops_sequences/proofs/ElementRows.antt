@@ -6,7 +6,7 @@ use Rattle.ps_language.specs.Value.{What, array_value, string_value, dictionary_
 use Rattle.ps_language.specs.Outcome.{given, unchanged, unnamed}
 use Rattle.ps_language.specs.Readers.{array_in, string_in, dictionary_in, as_array, as_string, as_dictionary}
 use Rattle.ps_language.specs.Acts.{naming_effect}
-use Rattle.ps_ops_arrays.specs.ArrayRows.{array_get_row, array_put_row}
+use Rattle.ps_ops_sequences.specs.ArrayRows.{array_get_row, array_put_row}
 use Rattle.ps_language.specs.Rows.{reading_row, changing_row, naming_row}
 use Rattle.ps_language.specs.RowsDictionaries.{get_by, get_row, put_by, put_row}
 use Rattle.ps_language.specs.RowsSequences.{get_element, get_byte, put_element, put_byte}
@@ -14,7 +14,7 @@ use Rattle.ps_word.specs.declared.words.Word.{Word}
 use Rattle.ps_mem.specs.Heap.{Heap, birth_at}
 use Rattle.ps_mem.specs.Meaning.{value_of}
 use Rattle.ps_ops_operands.specs.Changes.{values_in}
-use Rattle.ps_ops_strings.specs.StringRows.{string_get_row, string_put_row}
+use Rattle.ps_ops_sequences.specs.StringRows.{string_get_row, string_put_row}
 use Rattle.ps_ops_state.specs.Lent.{Lent, scene_of, IsShown}
 use Rattle.ps_ops_state.specs.Acts.{effect_in}
 use Rattle.ps_ops_state.proofs.Alike.{unchanged_effect, unnamed_effect}

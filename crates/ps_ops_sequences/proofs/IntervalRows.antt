@@ -4,14 +4,14 @@ use Rattle.std.specs.Prelude.{is_some}
 use Rattle.ps_language.specs.Value.{What, array_value, string_value, Value, Store}
 use Rattle.ps_language.specs.Readers.{array_in, string_in, as_array, as_string}
 use Rattle.ps_language.specs.Acts.{operands_effect}
-use Rattle.ps_ops_arrays.specs.ArrayRows.{array_getinterval_row}
+use Rattle.ps_ops_sequences.specs.ArrayRows.{array_getinterval_row}
 use Rattle.ps_language.specs.Rows.{reading_row}
 use Rattle.ps_language.specs.RowsSequences.{sequence_in, as_sequence, getinterval_row}
 use Rattle.ps_word.specs.declared.words.Word.{Word}
 use Rattle.ps_mem.specs.Heap.{Heap, birth_at}
 use Rattle.ps_mem.specs.Meaning.{value_of}
 use Rattle.ps_ops_operands.specs.Changes.{values_in}
-use Rattle.ps_ops_strings.specs.StringRows.{string_getinterval_row}
+use Rattle.ps_ops_sequences.specs.StringRows.{string_getinterval_row}
 use Rattle.ps_ops_state.specs.Lent.{Lent, scene_of, IsShown}
 use Rattle.ps_ops_state.specs.Acts.{effect_in}
 use Rattle.ps_ops_sequences.specs.Kinds.{is_string_at}

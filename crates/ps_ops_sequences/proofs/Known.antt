@@ -8,7 +8,7 @@ use Rattle.ps_word.specs.declared.values.Content.TheVariants.{Null, Integer, Boo
 use Rattle.ps_word.specs.Format.{content_in}
 use Rattle.ps_word.specs.Readers as words
 use Rattle.ps_mem.specs.Meaning.{value_of, what_of, part_of}
-use Rattle.ps_ops_strings.proofs.Reading.{as_string-value}
+use Rattle.ps_ops_operands.proofs.Reading.{as_string-value}
 
 pub some_mapped : {A B : Type 0} (f : A → B) (o : Option A) → is_some (option_map f o) ≡ is_some o
 some_mapped f (Some a) = refl

@@ -1,3 +1,16 @@
+pub mod ArrayReads
+pub mod AstoreLemmas
+pub mod ArrayMade
+pub mod PutLemmas
+pub mod Beginnings
+pub mod StringChanged
+pub mod Early
+pub mod Found
+pub mod StringMade
+pub mod Places
+pub mod Searched
+pub mod StringReads
+pub mod Windows
 pub mod Known
 pub mod ElementRows
 pub mod IntervalRows
@@ -11,3 +24,4 @@ pub mod PutIntervals
 pub mod CopyRows
 pub mod ReduceRows
 pub mod Searching
+pub mod ArrayPuts

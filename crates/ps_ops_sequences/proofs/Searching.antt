@@ -12,7 +12,7 @@ use Rattle.ps_mem.specs.Shows.{IsReady}
 use Rattle.ps_ops_operands.specs.declared.failure.Failure.{Failure}
 use Rattle.ps_ops_operands.specs.declared.failure.Failure.TheVariants.{Error, NotMade}
 use Rattle.ps_ops_operands.specs.Changes.{values_in, no_records, no_words}
-use Rattle.ps_ops_strings.specs.Searches.{LacksRoom, SearchesAs, Searches}
+use Rattle.ps_ops_sequences.specs.Searches.{LacksRoom, SearchesAs, Searches}
 use Rattle.ps_ops_state.specs.declared.lent.Attempt.{Attempt}
 use Rattle.ps_ops_state.specs.declared.lent.Scratch.{Scratch}
 use Rattle.ps_ops_state.specs.Breaks.{tried}

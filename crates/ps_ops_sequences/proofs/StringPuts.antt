@@ -20,8 +20,8 @@ use Rattle.ps_mem.proofs.Lists.{length-splice}
 use Rattle.ps_seq.proofs.TextLemmas.{text_at}
 use Rattle.ps_ops_operands.specs.Changes.{values_in}
 use Rattle.ps_ops_state.proofs.Asking.{IsUnasked, Leaving, leaving_error, leaving_given, leaving_given_that}
-use Rattle.ps_ops_strings.specs.StringRows.{string_put_row}
-use Rattle.ps_ops_strings.proofs.Changed.{longer}
+use Rattle.ps_ops_sequences.specs.StringRows.{string_put_row}
+use Rattle.ps_ops_sequences.proofs.StringChanged.{longer}
 use Rattle.ps_ops_state.proofs.Changing.{RowLasts, lasts_given, lasts_given_that}
 
 -- ---- other bytes make nothing

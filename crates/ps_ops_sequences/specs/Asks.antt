@@ -1,14 +1,14 @@
 -- What the operators that change strings and arrays ask for, and why they are not made.
 use Rattle.std.specs.Prelude.{ℕ, ◌+◌, min, List, ◌∷◌, vec_capacity}
 use Rattle.ps_language.specs.Value.{What, integer_value, array_value, string_value, dictionary_value, Value}
-use Rattle.ps_ops_arrays.specs.ArrayRows.{count_in}
+use Rattle.ps_ops_sequences.specs.ArrayRows.{count_in}
 use Rattle.ps_language.specs.Readers.{as_string}
 use Rattle.ps_language.specs.Effect.{Scene}
 use Rattle.ps_mem.specs.Heap.{Grants}
 use Rattle.ps_mem.specs.References.{words_for}
 use Rattle.ps_ops_operands.specs.declared.failure.NotMade.{NotMade}
 use Rattle.ps_ops_operands.specs.Changes.{IsRecordReason}
-use Rattle.ps_ops_strings.specs.Copies.{IsCopyReason}
+use Rattle.ps_ops_sequences.specs.Copies.{IsCopyReason}
 use Rattle.ps_ops_state.specs.declared.lent.Scratch.{Scratch}
 use Rattle.ps_ops_state.specs.Acts.{Asked, no_rooms}
 use Rattle.ps_ops_sequences.specs.declared.pairs.Sequence.{Sequence}

@@ -2,7 +2,7 @@
 //! Array, String).
 
 ghost use Rattle.std.specs.Prelude.{◌≡◌, ◌<◌, false};
-ghost use Rattle.ps_ops_arrays.specs.ArrayRows.{one_stored, topmost_count};
+ghost use Rattle.ps_ops_sequences.specs.ArrayRows.{one_stored, topmost_count};
 ghost use Rattle.ps_language.specs.Rows.{changing_row, naming_row};
 ghost use Rattle.ps_language.specs.RowsDictionaries.{get_row, put_row};
 ghost use Rattle.ps_language.specs.RowsSequences as sequences;
@@ -11,11 +11,10 @@ ghost use Rattle.ps_ops_state.specs.Lent.{lent_of, IsGood};
 ghost use Rattle.ps_ops_sequences.specs.Kinds as kinds;
 
 use crate::kinds::is_string_at;
+use crate::{array_changes, arrays, string_changes, strings};
 use ps_mem::Memory;
-use ps_ops_arrays::{arrays, changes};
 use ps_ops_state::breaks::{Break, made, tried};
 use ps_ops_state::lent::{Attempt, Context, Runtime};
-use ps_ops_strings::{changes as string_changes, strings};
 
 /// `X i get y` but for dictionaries: the element of an array, or the byte of a string. Raises
 /// `stackunderflow`, `typecheck`, `invalidaccess` and `rangecheck`.
@@ -57,7 +56,7 @@ pub fn put_into_sequence<M: Memory>(
     if is_string_at(&context.operands, 2) {
         tried(string_changes::put(&mut context.operands, &mut runtime.memory, attempt.slot))
     } else {
-        tried(changes::put(&mut context.operands, &mut runtime.memory, attempt.slot))
+        tried(array_changes::put(&mut context.operands, &mut runtime.memory, attempt.slot))
     }
 }
 
@@ -73,5 +72,5 @@ pub fn astore<M: Memory>(
         (lent_of M.heap M.grants context.old runtime.old)
         (lent_of M.heap M.grants context.new runtime.new) }
 {
-    tried(changes::astore(&mut context.operands, &mut runtime.memory, attempt.slot))
+    tried(array_changes::astore(&mut context.operands, &mut runtime.memory, attempt.slot))
 }

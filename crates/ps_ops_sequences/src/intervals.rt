@@ -7,11 +7,10 @@ ghost use Rattle.ps_ops_state.specs.Acts.{Acts, nothing_asked};
 ghost use Rattle.ps_ops_state.specs.Lent.{lent_of, IsGood};
 
 use crate::kinds::is_string_at;
+use crate::{arrays, strings};
 use ps_mem::Memory;
-use ps_ops_arrays::arrays;
 use ps_ops_state::breaks::{Break, made};
 use ps_ops_state::lent::{Attempt, Context, Runtime};
-use ps_ops_strings::strings;
 
 /// `X i n getinterval Y`: `n` elements of an array or bytes of a string from `i` on, shared with
 /// it. Raises `stackunderflow`, `typecheck`, `invalidaccess` and `rangecheck`.

@@ -6,10 +6,10 @@ ghost use Rattle.ps_ops_state.specs.Acts.{Acts};
 ghost use Rattle.ps_ops_state.specs.Lent.{lent_of, IsGood};
 ghost use Rattle.ps_ops_sequences.specs.Asks.{search_asks};
 
+use crate::string_searches;
 use ps_mem::Memory;
 use ps_ops_state::breaks::{Break, tried};
 use ps_ops_state::lent::{Attempt, Context, Runtime};
-use ps_ops_strings::searches;
 
 /// `S T search behind match before true` at the first place where `S` has the bytes of `T`, else
 /// `S false`. Raises `stackunderflow`, `typecheck`, `invalidaccess` and `stackoverflow`. Not made
@@ -21,7 +21,7 @@ pub fn search<M: Memory>(context: &mut Context, runtime: &mut Runtime<M>) -> Res
         (lent_of M.heap M.grants context.new runtime.new) }
 {
     let scratch = &mut runtime.shared.scratch;
-    tried(searches::search(
+    tried(string_searches::search(
         &mut context.operands,
         &mut runtime.memory,
         &mut scratch.text,

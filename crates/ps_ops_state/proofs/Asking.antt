@@ -1,14 +1,11 @@
--- What the rows ask for that change arrays or make them.
-use Rattle.std.proofs.Common.{◌≡◌, ℕ, Bool, true, false, List, [], ◌∷◌, ◌++◌, Option, Some, None, refl}
+-- What rows ask for: nothing, or one object.
+use Rattle.std.proofs.Common.{◌≡◌, Bool, true, false, List, [], ◌∷◌, ◌++◌, Option, Some, None, refl}
 use Rattle.ps_language.specs.declared.errors.ErrorName.{ErrorName}
 use Rattle.ps_language.specs.declared.errors.ErrorName.TheVariants.{StackUnderflow}
-use Rattle.ps_language.specs.Value.{Part, Value, Object, Store}
+use Rattle.ps_language.specs.Value.{Value, Object, Store}
 use Rattle.ps_language.specs.Outcome.{Outcome, leaves, fails, given, given_that, Change}
-use Rattle.ps_language.specs.Objects.{made_between, making, changing}
-use Rattle.ps_language.specs.Access.{with_part_elements}
-use Rattle.ps_ops_arrays.specs.ArrayRows.{array_put_row}
-use Rattle.ps_language.specs.RowsSequences.{array_row, end_array_row, string_row, astore_row}
-use Rattle.ps_language.proofs.AskedLemmas.{elements-unasked}
+use Rattle.ps_language.specs.Objects.{made_between, making}
+use Rattle.ps_language.specs.RowsSequences.{array_row, end_array_row, string_row}
 
 -- what is left is such a change; an error leaves none
 abbrev pub LeavesSuch : (Change → Type 0) → Outcome Change → Type 0
@@ -37,26 +34,6 @@ leaving_given_that P false error next left = leaving_error P error
 
 abbrev pub IsUnasked : Store → Change → Type 0
 IsUnasked store change = made_between store change.store ≡ 0
-
-changing_unasked : (store : Store) (operands : List Value) (part : Part) (place : ℕ)
-    (items : List Value) → Leaving (IsUnasked store)
-    (changing operands (with_part_elements store part place items))
-changing_unasked store operands part place items =
-    record { such = elements-unasked store part.birth _ }
-
-ruleset unasked_steps = (leaving_given, leaving_given_that, changing_unasked)
-
-pub put_unasked : (store : Store) (operands : List Value)
-    → Leaving (IsUnasked store) (array_put_row store operands)
-put_unasked store [] = leaving_error (IsUnasked store) StackUnderflow
-put_unasked store (y ∷ []) = leaving_error (IsUnasked store) StackUnderflow
-put_unasked store (y ∷ k ∷ []) = leaving_error (IsUnasked store) StackUnderflow
-put_unasked store (y ∷ k ∷ x ∷ rest) = search unasked_steps
-
-pub astore_unasked : (store : Store) (operands : List Value)
-    → Leaving (IsUnasked store) (astore_row store operands)
-astore_unasked store [] = leaving_error (IsUnasked store) StackUnderflow
-astore_unasked store (x ∷ rest) = search unasked_steps
 
 -- ---- rows that make one object
 

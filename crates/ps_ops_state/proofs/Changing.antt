@@ -2,20 +2,18 @@
 use Rattle.std.proofs.Common.{◌≡◌, ℕ, ◌-◌, ◌≤◌, arith, Bool, true, false, List, [], ◌∷◌, length, Option, Some, None}
 use Rattle.std.proofs.Common.{Result, Ok, Err, refl, sym, ap, subst, ◌∙◌, append-nil, inl, inr}
 use Rattle.std.proofs.lemmas.Bool.Decides.{eqb_tells, nat_tests}
-use Rattle.std.specs.Prelude.{OnErr, min, nat_le, slice_get, if◌then◌else◌}
+use Rattle.std.specs.Prelude.{OnErr, min, slice_get, if◌then◌else◌}
 use Rattle.ps_language.specs.declared.errors.ErrorName.{ErrorName}
-use Rattle.ps_language.specs.declared.errors.ErrorName.TheVariants.{VmError, InvalidAccess, RangeCheck, StackUnderflow}
+use Rattle.ps_language.specs.declared.errors.ErrorName.TheVariants.{VmError}
 use Rattle.ps_language.specs.Value.{Part as PartValue, Value, Store, Object, array_object, string_object}
 use Rattle.ps_language.specs.Value.{dictionary_object, lock_object, condition_object}
-use Rattle.ps_language.specs.Access.{is_writable, bytes, bytes_in, with_elements}
+use Rattle.ps_language.specs.Access.{bytes, bytes_in, with_elements}
 use Rattle.ps_language.specs.Outcome.{Outcome, leaves, fails, given, given_that, Change}
-use Rattle.ps_language.specs.Objects.{size_of, made_between, lacks_room, changing}
-use Rattle.ps_language.specs.Readers.{as_array, array_in, as_integer, index_below}
+use Rattle.ps_language.specs.Objects.{size_of, made_between, lacks_room}
+use Rattle.ps_language.specs.Readers.{as_array, array_in}
 use Rattle.ps_language.specs.Effect.{Scene, makes}
 use Rattle.ps_language.specs.Acts.{change_effect}
 use Rattle.ps_language.specs.Rows.{changing_row}
-use Rattle.ps_ops_arrays.specs.ArrayRows.{array_put_row}
-use Rattle.ps_language.specs.RowsSequences.{astore_row}
 use Rattle.ps_language.proofs.AskedLemmas.{made-new}
 use Rattle.ps_word.specs.declared.words.Word.{Word}
 use Rattle.ps_word.specs.declared.values.Content.{Content}
@@ -26,7 +24,7 @@ use Rattle.ps_mem.specs.Heap.{Heap, Grants, birth_at}
 use Rattle.ps_mem.specs.Keeps.{Keeps}
 use Rattle.ps_mem.specs.References.{IsKnownContent, IsKnown}
 use Rattle.ps_mem.specs.Meaning.{what_of, value_of}
-use Rattle.ps_mem.specs.Shows.{IsValue, AreValues, IsReady, Shows}
+use Rattle.ps_mem.specs.Shows.{IsValue, IsReady, Shows}
 use Rattle.ps_mem.proofs.Lists.{slice_get-set_other}
 use Rattle.ps_mem.proofs.NewShows.{longer}
 use Rattle.ps_mem.proofs.StoreShows.{array-shown}
@@ -82,10 +80,6 @@ elements_last s b es none c = elim (eqb_tells b c) [
       (slice_get-set_other s b c (array_object es) other) in omega (arith, is)
 ]
 
-elements_changing : (rest : List Value) (s : Store) (b : ℕ) (es : List Value) → bytes s b ≡ []
-    → RowLasts s (changing rest (with_elements s b es))
-elements_changing rest s b es none = record { lasts = elements_last s b es none }
-
 module _ (h : Heap) (names : List (List ℕ)) (s : Store) (shows : Shows h names s) where
   array_content : (content : Content) → IsKnownContent h content → (p : PartValue)
       → array_in (what_of (birth_at h) names content) ≡ Some p → bytes s p.birth ≡ []
@@ -116,27 +110,6 @@ module _ (h : Heap) (names : List (List ℕ)) (s : Store) (shows : Shows h names
       → as_array (value_of (birth_at h) names w) ≡ Some p → bytes s p.birth ≡ []
   unfolding as_array value_of IsKnown
   array_bytes w value p is = array_content (content_in w.0) value.known p is
-
-  pub put_lasts : (operands : List Word) → AreValues h operands
-      → RowLasts s (array_put_row s (values_in h names operands))
-  put_lasts [] values = record { lasts = tt }
-  put_lasts (y ∷ []) values = record { lasts = tt }
-  put_lasts (y ∷ k ∷ []) values = record { lasts = tt }
-  put_lasts (y ∷ k ∷ x ∷ rest) values =
-      lasts_given s (as_array (value_of (birth_at h) names x)) _ _ λ part is.
-      lasts_given s (as_integer (value_of (birth_at h) names k)) _ _ λ number _.
-      lasts_given_that s (is_writable part.access) InvalidAccess _
-      (lasts_given {A = ℕ} s (index_below number part.count) RangeCheck _ λ index _.
-      elements_changing _ s part.birth _ (array_bytes x values.1.1.0 part is))
-
-  pub astore_lasts : (operands : List Word) → AreValues h operands
-      → RowLasts s (astore_row s (values_in h names operands))
-  astore_lasts [] values = record { lasts = tt }
-  astore_lasts (x ∷ rest) values =
-      lasts_given s (as_array (value_of (birth_at h) names x)) _ _ λ part is.
-      lasts_given_that s (is_writable part.access) InvalidAccess _
-      (lasts_given_that s (nat_le part.count (length (values_in h names rest))) StackUnderflow _
-      (elements_changing _ s part.birth _ (array_bytes x values.0 part is)))
 
 -- an object has a header at least
 size_positive : (object : Object) → 1 ≤ size_of object

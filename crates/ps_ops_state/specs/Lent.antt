@@ -1,5 +1,5 @@
 -- What is lent to an operator, as words, and the scene that it shows (PLRM2, 3.4).
-use Rattle.std.specs.Prelude.{◌≡◌, ◌≢◌, ℕ, ◌-◌, ◌<◌, ◌^◌, List, [], length, AllPairs, vec_capacity}
+use Rattle.std.specs.Prelude.{◌≡◌, ◌≢◌, ℕ, ◌<◌, ◌^◌, List, [], length, AllPairs, vec_capacity}
 use Rattle.ps_language.specs.declared.kinds.Kind.TheVariants.{Dictionary}
 use Rattle.ps_language.specs.Value.{Store}
 use Rattle.ps_language.specs.Effect.{Around, Scene}

@@ -33,7 +33,7 @@ use Rattle.ps_ops_state.proofs.Meeting.{lacks_nothing, logs_more}
 use Rattle.ps_ops_state.proofs.Acting.{wanting_acts}
 use Rattle.ps_ops_state.proofs.Direct.{store_acts}
 use Rattle.ps_ops_sequences.specs.declared.pairs.Sequence.TheVariants.{Strings}
-use Rattle.ps_ops_strings.specs.Copies.{IsCopyReason}
+use Rattle.ps_ops_sequences.specs.Copies.{IsCopyReason}
 use Rattle.ps_ops_values.specs.TextReads.{IsTextReason}
 use Rattle.ps_ops_sequences.specs.Asks.{asked_for, IsStoreReason}
 use Rattle.ps_ops_values.specs.Asks.{cvs_asks}

@@ -26,7 +26,7 @@ use Rattle.ps_mem.specs.Meaning.{part_of, value_of}
 use Rattle.ps_mem.specs.Shows.{IsSound, IsValue, IsWithin, Shows}
 use Rattle.ps_dict.specs.Keys.{same_words}
 use Rattle.ps_dict.proofs.KeyLemmas.{same_keys}
-use Rattle.ps_ops_strings.proofs.Reading.{as_string-value, as_string-stands, as_string-within}
+use Rattle.ps_ops_operands.proofs.Reading.{as_string-value, as_string-stands, as_string-within}
 use Rattle.ps_step_lookup.specs.declared.keys.Key.{Key}
 use Rattle.ps_step_lookup.specs.declared.keys.Key.TheVariants.{Met, Unmet, TooLong}
 use Rattle.ps_step_lookup.specs.Keys.{IsKeyOf, word_in}

@@ -1,5 +1,5 @@
 -- What is printed, or why it isn't.
-use Rattle.std.proofs.Common.{◌≡◌, ℕ, ◌+◌, ◌-◌, ◌<◌, ◌≤◌, ◌++◌, arith, List, map, drop, length, true, false, Option}
+use Rattle.std.proofs.Common.{◌≡◌, ℕ, ◌<◌, ◌++◌, arith, List, map, drop, length, true, false, Option}
 use Rattle.std.proofs.Common.{None, Some, refl, sym, ap, subst, ◌∙◌, inl}
 use Rattle.std.proofs.lemmas.List.{take_all, reverse-reverse}
 use Rattle.std.specs.Prelude.{take, reverse, option_map}

@@ -12,9 +12,9 @@ ghost use Rattle.ps_ops_values.specs.Formed.{IsFormedWord};
 use ps_language::errors::ErrorName;
 use ps_mem::Memory;
 use ps_ops_operands::access::is_readable;
+use ps_ops_operands::readers::string_of;
 use ps_ops_state::breaks::Break;
 use ps_ops_state::lent::{Attempt, Context, Runtime};
-use ps_ops_strings::readers::string_of;
 use ps_step_lookup::keys::{Key, form_key, name_word, read_key};
 use ps_word::words::Word;
 

@@ -20,11 +20,10 @@ use ps_mem::Memory;
 use ps_ops_operands::access::is_readable;
 use ps_ops_operands::plain;
 use ps_ops_operands::ranges::SEQUENCE_LIMIT;
-use ps_ops_operands::readers::integer_of;
+use ps_ops_operands::readers::{integer_of, string_of};
+use ps_ops_sequences::reads::read_bytes;
 use ps_ops_state::breaks::Break;
 use ps_ops_state::lent::{Attempt, Context, Runtime};
-use ps_ops_strings::readers::string_of;
-use ps_ops_strings::reads::read_bytes;
 use ps_scan::{NumberFault, first_number};
 use ps_word::values::Part;
 

@@ -10,9 +10,9 @@ use ps_language::errors::ErrorName;
 use ps_mem::Memory;
 use ps_ops_operands::access::is_readable;
 use ps_ops_operands::failure::NotMade;
+use ps_ops_operands::readers::string_of;
 use ps_ops_state::breaks::Break;
 use ps_ops_state::lent::{Attempt, Context, Runtime};
-use ps_ops_strings::readers::string_of;
 use std::alloc::AllocError;
 
 /// `S print`: its bytes. Raises `stackunderflow`, `typecheck` and `invalidaccess`. Not made, by

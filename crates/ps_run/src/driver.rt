@@ -12,6 +12,7 @@ use crate::finishing::finish;
 use crate::keeping::keep_program;
 use crate::making::{config_of, make};
 use crate::outputs::{Flushing, Telling};
+use crate::outside::Outside;
 use crate::reading::{read_given, read_program};
 use crate::statuses::{Status, end, number_of};
 use crate::streams::{output_of, screen_of};
@@ -26,25 +27,25 @@ use std::sync::Wait;
 use std::thread::Threads;
 
 /// Runs the program that the words name, whose steps and operators on contexts are those of the
-/// makers: by workers in a space that is collected, or over memory that never is. Or
-/// follows the schedule that the words name, or runs the program many times under schedules chosen
-/// by chance. Writes what it printed to `out`, the schedule to the file that the words name
-/// for a record, and statistics and faults to `err`. The words are without the program's name; the
-/// system has threads, memory and keys, which are for the table of names alone.
+/// makers: by workers in a space that is collected, or over memory that never is. Or follows the
+/// schedule that the words name, or runs the program many times under schedules chosen by chance.
+/// Writes what it printed to `out`, the schedule to the file that the words name for a record, and
+/// statistics and faults to `outside.err`. The words are without the program's name; the system has
+/// threads, memory and keys, which are for the table of names alone.
 ///
 /// What is printed is what the definitions print for the run's schedule. The record has the text of
 /// that schedule. Of many runs the first one's bytes are printed, each ending has a record, and
-/// `err` is told how many runs and endings there were.
+/// `outside.err` is told how many runs and endings there were.
 ///
 /// The result is the exit status and the output. The status is 0 where every context finished, 1
 /// where an error was printed too, 2 for a fault of the command line, of a file or of the output,
 /// 3 where a context is left and all wait, 4 where the steps are used up, 5 for want of memory,
 /// before the run or in it. Of many runs it is 0 where all ended alike, and 1 where they did not.
-/// With 2 the output has a beginning of what was printed, which is nothing where the words or a file
-/// that is read were at fault, and all of it where the record can't be written. After a run whose
-/// output took everything the output is flushed. A write to `err` that fails changes nothing else, but
-/// that nothing more is told. No file changes but that of the record, and none that holds the
-/// program.
+/// With 2 the output has a beginning of what was printed, which is nothing where the words or a
+/// file that is read were at fault, and all of it where the record can't be written. After a run
+/// whose output took everything the output is flushed. A write to `outside.err` that fails changes
+/// nothing else, but that nothing more is told. No file changes but that of the record, and none
+/// that holds the program.
 ///
 /// Where the words ask for a stream, the output may be handed printed bytes while the run goes on,
 /// and is flushed behind them. If it fails then, the run is cut: it ends with 2, and is one with
@@ -63,24 +64,24 @@ pub fn drive<
     system: System<'_, R>,
     makers: Makers<S, D>,
     words: &[&str],
-    files: &mut F,
     mut out: W,
-    err: &mut X,
+    outside: &mut Outside<F, X>,
 ) -> (u8, W)
     ensures fault { faults_in (map (λ word. word.now) words.now) ≢ []
         → ((result.0 ≡ 2) ⊎ (result.0 ≡ 5)) × (W.contents result.1 ≡ W.contents out)
-        × (files.new ≡ files.old) }
+        × (outside.new.files ≡ outside.old.files) }
     ensures files { (name : List ℕ)
         → ((many : Option ℕ)
         → IsOptional (codes "explore") (map (λ word. word.now) words.now) many
         → ¬ IsRecordName (named_in (codes "record") (map (λ word. word.now) words.now)) many name)
-        → F.contents files.new name ≡ F.contents files.old name }
-    ensures unread { F.last_fault files.old ≡ None
-        → IfSome (F.last_fault files.new) (λ fault. (told : Status)
+        → F.contents outside.new.files name ≡ F.contents outside.old.files name }
+    ensures unread { F.last_fault outside.old.files ≡ None
+        → IfSome (F.last_fault outside.new.files) (λ fault. (told : Status)
         × (result.0 ≡ driving.number_of told)
         × IsUnread (names_in (map (λ word. word.now) words.now)) fault told
-        (X.told err.old) (X.told err.new)) }
-    ensures unwritten { F.is_unwritten files.old ≡ false → F.is_unwritten files.new ≡ true
+        (X.told outside.old.err) (X.told outside.new.err)) }
+    ensures unwritten { F.is_unwritten outside.old.files ≡ false
+        → F.is_unwritten outside.new.files ≡ true
         → result.0 ≡ 2 }
     ensures run { (told : Status) × (result.0 ≡ driving.number_of told)
         × IsDriven S.asks (names_in (map (λ word. word.now) words.now))
@@ -88,31 +89,35 @@ pub fn drive<
         ((faults_in (map (λ word. word.now) words.now) ≢ [])
         ⊎ (((many : Option ℕ)
         × IsOptional (codes "explore") (map (λ word. word.now) words.now) many
-        × IsFileFault (F.contents files.old) (names_in (map (λ word. word.now) words.now)) many
-        (X.told err.old) (X.told err.new))
+        × IsFileFault (F.contents outside.old.files)
+        (names_in (map (λ word. word.now) words.now)) many
+        (X.told outside.old.err) (X.told outside.new.err))
         ⊎ AreOutOfRange (map (λ word. word.now) words.now))) told
         (record {
           out_old = W.contents out;
           out_new = W.contents result.1;
-          err_old = X.told err.old;
-          err_new = X.told err.new;
-          files_old = F.contents files.old;
-          files_new = F.contents files.new;
+          err_old = X.told outside.old.err;
+          err_new = X.told outside.new.err;
+          files_old = F.contents outside.old.files;
+          files_new = F.contents outside.new.files;
           flushed = W.is_flushed result.1;
         }) }
 {
     match parse(system.alloc, words) {
         Ok(options) => match options.explore {
             None => {
-                let (status, out) = run(system, makers, &options, files, out, err);
+                let (status, out) = run(system, makers, &options, out, outside);
                 (number_of(status), out)
             }
-            Some(runs) => {
-                let status = explore(system, makers, &options, runs, files, &mut out, err);
+            Some(_) => {
+                let status = explore(system, makers, &options, &mut out, outside);
                 (number_of(status), out)
             }
         },
-        Err(error) => (number_of(refuse(system.alloc, &error, err)), out),
+        Err(error) => {
+            let status = refuse(system.alloc, &error, &mut outside.err);
+            (number_of(status), out)
+        }
     }
 }
 
@@ -129,42 +134,43 @@ fn run<
     system: System<'_, R>,
     makers: Makers<S, D>,
     options: &Options<'_>,
-    files: &mut F,
     out: W,
-    err: &mut X,
+    outside: &mut Outside<F, X>,
 ) -> (Status, W)
     requires single { options.now.explore ≡ None }
     ensures files { (name : List ℕ) → ¬ IsRecordName (names_of options.now).recorded None name
-        → F.contents files.new name ≡ F.contents files.old name }
-    ensures unread { F.last_fault files.old ≡ None
-        → IfSome (F.last_fault files.new) (λ fault. IsUnread (names_of options.now) fault result.0
-        (X.told err.old) (X.told err.new)) }
-    ensures unwritten { F.is_unwritten files.old ≡ false → F.is_unwritten files.new ≡ true
+        → F.contents outside.new.files name ≡ F.contents outside.old.files name }
+    ensures unread { F.last_fault outside.old.files ≡ None
+        → IfSome (F.last_fault outside.new.files)
+        (λ fault. IsUnread (names_of options.now) fault result.0
+        (X.told outside.old.err) (X.told outside.new.err)) }
+    ensures unwritten { F.is_unwritten outside.old.files ≡ false
+        → F.is_unwritten outside.new.files ≡ true
         → result.0 ≡ Status.Usage }
     ensures run { IsDriven S.asks (names_of options.now)
         (λ asked. asked ≡ asked_of options.now)
-        (IsFileFault (F.contents files.old) (names_of options.now) options.now.explore
-        (X.told err.old) (X.told err.new) ⊎ ¬ IsWithin (config_in options.now))
+        (IsFileFault (F.contents outside.old.files) (names_of options.now) options.now.explore
+        (X.told outside.old.err) (X.told outside.new.err) ⊎ ¬ IsWithin (config_in options.now))
         result.0 (record {
           out_old = W.contents out;
           out_new = W.contents result.1;
-          err_old = X.told err.old;
-          err_new = X.told err.new;
-          files_old = F.contents files.old;
-          files_new = F.contents files.new;
+          err_old = X.told outside.old.err;
+          err_new = X.told outside.new.err;
+          files_old = F.contents outside.old.files;
+          files_new = F.contents outside.new.files;
           flushed = W.is_flushed result.1;
         }) }
 {
     let alloc = system.alloc;
-    let program = match read_program(alloc, options, files, err) {
+    let program = match read_program(alloc, options, outside) {
         Ok(program) => program,
         Err(status) => return (status, out),
     };
     let bytes = program.as_slice();
-    if let Err(status) = keep_program(alloc, options, bytes, files, err) {
+    if let Err(status) = keep_program(alloc, options, bytes, &outside.files, &mut outside.err) {
         return (status, out);
     }
-    let given = match read_given(alloc, options, files, err) {
+    let given = match read_given(alloc, options, outside) {
         Ok(given) => given,
         Err(status) => return (status, out),
     };
@@ -177,8 +183,8 @@ fn run<
     let screen = screen_of(out, options.stream);
     let Watched { report, screen } = make(system, job, options, given, screen);
     match report {
-        Ok(report) => finish(alloc, &report, options, files, screen, err),
-        Err(RunFault::Memory) => (end(err, Status::Memory), output_of(screen)),
+        Ok(report) => finish(alloc, &report, options, screen, outside),
+        Err(RunFault::Memory) => (end(&mut outside.err, Status::Memory), output_of(screen)),
         Err(RunFault::Config) => (Status::Usage, output_of(screen)),
     }
 }

@@ -9,6 +9,7 @@ ghost use Rattle.ps_run.specs.Telling.{Tells};
 use crate::files::FileSet;
 use crate::finishing::{tell_lost, write_schedule};
 use crate::outputs::{Flushing, Telling};
+use crate::outside::Outside;
 use crate::statuses::{Status, end};
 use crate::writing::{hand_out, tell_number};
 use ps_run_options::Options;
@@ -16,44 +17,52 @@ use ps_run_schedules::Entries;
 use ps_vault::Report;
 use std::alloc::Global;
 
+/// Many runs of a program.
+#[derive(Clone, Copy)]
+pub(crate) struct ManyRuns<'e> {
+    /// How many there were.
+    pub(crate) runs: u32,
+    /// What they came to, each ending once, in the order in which the runs came to them.
+    pub(crate) endings: &'e [Report],
+}
+
 /// Writes what the first of these endings printed, then the record of each where that is asked for,
 /// then how many runs and endings there were.
 pub(crate) fn finish_all<F: FileSet, W: Flushing, X: Telling>(
     alloc: Global,
-    endings: &[Report],
-    runs: u32,
+    many: ManyRuns<'_>,
     options: &Options<'_>,
-    files: &mut F,
     out: &mut W,
-    err: &mut X,
+    outside: &mut Outside<F, X>,
 ) -> Status
-    requires some { 1 ≤ length endings.now }
-    requires few { length endings.now < 2 ^ 32 }
+    requires some { 1 ≤ length many.endings.now }
+    requires few { length many.endings.now < 2 ^ 32 }
     ensures others { (other : List ℕ) → ¬ IsRecordName (names_of options.now).recorded
-        (Some (length endings.now)) other
-        → F.contents files.new other ≡ F.contents files.old other }
-    ensures reads { F.last_fault files.new ≡ F.last_fault files.old }
-    ensures unwritten { F.is_unwritten files.old ≡ false → F.is_unwritten files.new ≡ true
+        (Some (length many.entry.endings.now)) other
+        → F.contents outside.new.files other ≡ F.contents outside.old.files other }
+    ensures reads { F.last_fault outside.new.files ≡ F.last_fault outside.old.files }
+    ensures unwritten { F.is_unwritten outside.old.files ≡ false
+        → F.is_unwritten outside.new.files ≡ true
         → result ≡ Status.Usage }
-    ensures written { AreWritten (names_of options.now).recorded runs
-        endings.now result (record {
+    ensures written { AreWritten (names_of options.now).recorded many.entry.runs
+        many.entry.endings.now result (record {
           out_old = W.contents out.old;
           out_new = W.contents out.new;
-          err_old = X.told err.old;
-          err_new = X.told err.new;
-          files_old = F.contents files.old;
-          files_new = F.contents files.new;
+          err_old = X.told outside.old.err;
+          err_new = X.told outside.new.err;
+          files_old = F.contents outside.old.files;
+          files_new = F.contents outside.new.files;
           flushed = W.is_flushed out.new;
         }) }
 {
-    if hand_out(out, endings[0].printed.as_slice()).is_err() {
-        return tell_lost(err);
+    if hand_out(out, many.endings[0].printed.as_slice()).is_err() {
+        return tell_lost(&mut outside.err);
     }
-    if let Err(status) = record_all(alloc, endings, options, files, err) {
+    if let Err(status) = record_all(alloc, many.endings, options, outside) {
         return status;
     }
-    tell_endings(runs, endings.len(), err);
-    if endings.len() == 1 {
+    tell_endings(many.runs, many.endings.len(), &mut outside.err);
+    if many.endings.len() == 1 {
         Status::Finished
     } else {
         Status::Faulted
@@ -67,23 +76,24 @@ fn record_all<F: FileSet, X: Telling>(
     alloc: Global,
     endings: &[Report],
     options: &Options<'_>,
-    files: &mut F,
-    err: &mut X,
+    outside: &mut Outside<F, X>,
 ) -> Result<(), Status>
     requires few { length endings.now < 2 ^ 32 }
-    ensures recorded { OnOk result (AreRecorded (F.contents files.new)
+    ensures recorded { OnOk result (AreRecorded (F.contents outside.new.files)
         (names_of options.now).recorded endings.now (length endings.now)) }
-    ensures told { OnOk result (err.new ≡ err.old) }
+    ensures told { OnOk result (outside.new.err ≡ outside.old.err) }
     ensures unrecorded { IfErr result (λ told. (place : ℕ) × (place < length endings.now)
-        × AreRecorded (F.contents files.new) (names_of options.now).recorded endings.now place
+        × AreRecorded (F.contents outside.new.files) (names_of options.now).recorded endings.now
+        place
         × TellsUnwritten
         (option_map (λ prefix. numbered prefix (place + 1)) (names_of options.now).recorded)
-        told (X.told err.old) (X.told err.new)) }
+        told (X.told outside.old.err) (X.told outside.new.err)) }
     ensures others { (other : List ℕ) → ¬ IsRecordName (names_of options.now).recorded
         (Some (length endings.now)) other
-        → F.contents files.new other ≡ F.contents files.old other }
-    ensures reads { F.last_fault files.new ≡ F.last_fault files.old }
-    ensures unwritten { F.is_unwritten files.old ≡ false → F.is_unwritten files.new ≡ true
+        → F.contents outside.new.files other ≡ F.contents outside.old.files other }
+    ensures reads { F.last_fault outside.new.files ≡ F.last_fault outside.old.files }
+    ensures unwritten { F.is_unwritten outside.old.files ≡ false
+        → F.is_unwritten outside.new.files ≡ true
         → result ≡ Err Status.Usage }
 {
     let Some(prefix) = options.record_file else {
@@ -92,7 +102,7 @@ fn record_all<F: FileSet, X: Telling>(
     let mut number = 0;
     while number < endings.len() {
         let schedule = endings[number].schedule.entries();
-        record_ending(alloc, prefix, number as u64 + 1, schedule, files, err)?;
+        record_ending(alloc, prefix, number as u64 + 1, schedule, outside)?;
         number += 1;
     }
     Ok(())
@@ -105,25 +115,27 @@ fn record_ending<F: FileSet, X: Telling>(
     prefix: &str,
     number: u64,
     schedule: Entries<'_>,
-    files: &mut F,
-    err: &mut X,
+    outside: &mut Outside<F, X>,
 ) -> Result<(), Status>
-    ensures recorded { OnOk result (IsRecorded (F.contents files.new)
+    ensures recorded { OnOk result (IsRecorded (F.contents outside.new.files)
         (Some (numbered prefix.now number)) schedule.entry) }
-    ensures told { OnOk result (err.new ≡ err.old) }
+    ensures told { OnOk result (outside.new.err ≡ outside.old.err) }
     ensures unrecorded { IfErr result (λ told.
-        TellsUnwritten (Some (numbered prefix.now number)) told (X.told err.old) (X.told err.new)) }
+        TellsUnwritten (Some (numbered prefix.now number)) told
+        (X.told outside.old.err) (X.told outside.new.err)) }
     ensures others { (other : List ℕ) → ¬ (other ≡ numbered prefix.now number)
-        → F.contents files.new other ≡ F.contents files.old other }
-    ensures reads { F.last_fault files.new ≡ F.last_fault files.old }
-    ensures unwritten { F.is_unwritten files.old ≡ false → F.is_unwritten files.new ≡ true
+        → F.contents outside.new.files other ≡ F.contents outside.old.files other }
+    ensures reads { F.last_fault outside.new.files ≡ F.last_fault outside.old.files }
+    ensures unwritten { F.is_unwritten outside.old.files ≡ false
+        → F.is_unwritten outside.new.files ≡ true
         → result ≡ Err Status.Usage }
-    ensures writes { OnOk result (F.is_unwritten files.new ≡ F.is_unwritten files.old) }
+    ensures writes { OnOk result
+        (F.is_unwritten outside.new.files ≡ F.is_unwritten outside.old.files) }
 {
     let Ok(name) = format!(in alloc; "{prefix}.{number}") else {
-        return Err(end(err, Status::Memory));
+        return Err(end(&mut outside.err, Status::Memory));
     };
-    write_schedule(alloc, name.as_str(), schedule, files, err)
+    write_schedule(alloc, name.as_str(), schedule, outside)
 }
 
 /// Tells how many runs and endings there were.

@@ -1,16 +1,17 @@
 //! Many runs of the program's file, under schedules that are chosen by chance.
 
-ghost use Rattle.std.specs.Prelude.{◌≡◌, ◌≤◌, ◌⊎◌, ℕ, List, true, false, Some, None, IfSome};
+ghost use Rattle.std.specs.Prelude.{◌≡◌, ◌≤◌, ◌⊎◌, ℕ, List, true, false, None, IfSome, IsSome};
 ghost use Rattle.ps_vault.specs.Reports.{IsWithin};
 ghost use Rattle.ps_run.specs.Driving as driving;
 ghost use Rattle.ps_run.specs.Driving.{IsDriven, IsFileFault, IsRecordName, IsUnread, asked_of, config_in, names_of};
 
 use crate::chances::Chances;
-use crate::endings::finish_all;
+use crate::endings::{ManyRuns, finish_all};
 use crate::files::FileSet;
 use crate::keeping::keep_program;
 use crate::making::config_of;
 use crate::outputs::{Flushing, Telling};
+use crate::outside::Outside;
 use crate::reading::read_program;
 use crate::statuses::{Status, end};
 use crate::systems::System;
@@ -20,7 +21,7 @@ use ps_run_options::Options;
 use ps_step_interpreter::interprets::Interpret;
 use ps_vault::{Budget, Setup, Task};
 
-/// Reads the program, runs it so many times, at least once, and writes what the first run printed,
+/// Reads the program, runs it as many times as is asked for, and writes what the first run printed,
 /// the record of each ending where that is asked for, and how many endings there were.
 pub(crate) fn explore<
     S: Interpret + Clone + Drop,
@@ -33,46 +34,49 @@ pub(crate) fn explore<
     system: System<'_, R>,
     makers: Makers<S, D>,
     options: &Options<'_>,
-    runs: u32,
-    files: &mut F,
     out: &mut W,
-    err: &mut X,
+    outside: &mut Outside<F, X>,
 ) -> Status
-    requires some { 1 ≤ runs }
-    requires many { options.now.explore ≡ Some runs }
-    ensures files { (name : List ℕ) → ¬ IsRecordName (names_of options.now).recorded (Some runs)
-        name
-        → F.contents files.new name ≡ F.contents files.old name }
-    ensures unread { F.last_fault files.old ≡ None
-        → IfSome (F.last_fault files.new) (λ fault. IsUnread (names_of options.now) fault result
-        (X.told err.old) (X.told err.new)) }
-    ensures unwritten { F.is_unwritten files.old ≡ false → F.is_unwritten files.new ≡ true
+    requires many { IsSome options.now.explore }
+    requires range { IfSome options.now.explore (λ runs. (1 ≤ runs) × (runs ≤ 65535)) }
+    ensures files { (name : List ℕ) → ¬ IsRecordName (names_of options.now).recorded
+        options.now.explore name
+        → F.contents outside.new.files name ≡ F.contents outside.old.files name }
+    ensures unread { F.last_fault outside.old.files ≡ None
+        → IfSome (F.last_fault outside.new.files)
+        (λ fault. IsUnread (names_of options.now) fault result
+        (X.told outside.old.err) (X.told outside.new.err)) }
+    ensures unwritten { F.is_unwritten outside.old.files ≡ false
+        → F.is_unwritten outside.new.files ≡ true
         → result ≡ Status.Usage }
     ensures run { IsDriven S.asks (names_of options.now)
         (λ asked. asked ≡ asked_of options.now)
-        (IsFileFault (F.contents files.old) (names_of options.now) options.now.explore
-        (X.told err.old) (X.told err.new) ⊎ ¬ IsWithin (config_in options.now))
+        (IsFileFault (F.contents outside.old.files) (names_of options.now) options.now.explore
+        (X.told outside.old.err) (X.told outside.new.err) ⊎ ¬ IsWithin (config_in options.now))
         result (record {
           out_old = W.contents out.old;
           out_new = W.contents out.new;
-          err_old = X.told err.old;
-          err_new = X.told err.new;
-          files_old = F.contents files.old;
-          files_new = F.contents files.new;
+          err_old = X.told outside.old.err;
+          err_new = X.told outside.new.err;
+          files_old = F.contents outside.old.files;
+          files_new = F.contents outside.new.files;
           flushed = W.is_flushed out.new;
         }) }
 {
     let alloc = system.alloc;
-    let program = match read_program(alloc, options, files, err) {
+    let Some(runs) = options.explore else {
+        unreachable!()
+    };
+    let program = match read_program(alloc, options, outside) {
         Ok(program) => program,
         Err(status) => return status,
     };
     let bytes = program.as_slice();
-    if let Err(status) = keep_program(alloc, options, bytes, files, err) {
+    if let Err(status) = keep_program(alloc, options, bytes, &outside.files, &mut outside.err) {
         return status;
     }
     let config = config_of(options);
-    let mut order = Chances::new(config.quantum, runs, err.progress());
+    let mut order = Chances::new(config.quantum, runs, outside.err.progress());
     let task = Task {
         makers,
         program: bytes,
@@ -85,14 +89,16 @@ pub(crate) fn explore<
         steps: config.steps,
         entries: config.entries,
     };
-    match ps_vault::explore(alloc, &task, budget, runs, &mut order) {
+    let made = ps_vault::explore(alloc, &task, budget, runs, &mut order);
+    order.clear();
+    match made {
         Ok(endings) => {
-            order.clear();
-            finish_all(alloc, endings.as_slice(), runs, options, files, out, err)
+            let many = ManyRuns {
+                runs,
+                endings: endings.as_slice(),
+            };
+            finish_all(alloc, many, options, out, outside)
         }
-        Err(_) => {
-            order.clear();
-            end(err, Status::Memory)
-        }
+        Err(_) => end(&mut outside.err, Status::Memory),
     }
 }

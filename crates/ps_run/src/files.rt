@@ -103,8 +103,8 @@ pub trait FileSet {
         ensures succeeded { OnOk result (last_fault self.new ≡ last_fault self.old) }
         ensures writes { is_unwritten self.new ≡ is_unwritten self.old };
 
-    /// Whether the file of a name has these bytes and no others. False where there is none, and where
-    /// that can't be told.
+    /// Whether the file of a name has these bytes and no others. False where there is none, and
+    /// where that can't be told.
     fn holds(&self, name: &str, bytes: &[u8]) -> bool
         ensures { IfSome (contents self.now name.now)
             (λ known. result ≡ bytes_eq known bytes.now) };

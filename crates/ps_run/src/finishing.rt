@@ -9,6 +9,7 @@ ghost use Rattle.ps_run.specs.Telling.{Tells};
 
 use crate::files::FileSet;
 use crate::outputs::{Flushing, Telling};
+use crate::outside::Outside;
 use crate::statuses::{Status, end, status_of};
 use crate::streams::{Stream, write_rest};
 use crate::writing::{tell_number, tell_unwritten};
@@ -24,37 +25,37 @@ pub(crate) fn finish<F: FileSet, W: Flushing + Drop, X: Telling>(
     alloc: Global,
     report: &Report,
     options: &Options<'_>,
-    files: &mut F,
     screen: Screen<Stream<W>>,
-    err: &mut X,
+    outside: &mut Outside<F, X>,
 ) -> (Status, W)
     requires within { screen.shown ≤ length report.now.printed.items }
     ensures others { (other : List ℕ) → ¬ IsRecordName (names_of options.now).recorded None other
-        → F.contents files.new other ≡ F.contents files.old other }
-    ensures reads { F.last_fault files.new ≡ F.last_fault files.old }
-    ensures unwritten { F.is_unwritten files.old ≡ false → F.is_unwritten files.new ≡ true
+        → F.contents outside.new.files other ≡ F.contents outside.old.files other }
+    ensures reads { F.last_fault outside.new.files ≡ F.last_fault outside.old.files }
+    ensures unwritten { F.is_unwritten outside.old.files ≡ false
+        → F.is_unwritten outside.new.files ≡ true
         → result.0 ≡ Status.Usage }
     ensures written { (first : Option (List ℕ)) → HasShown first screen report.now.printed.items
         → IsWritten screen.failed (names_of options.now).recorded options.now.stats report.now
         result.0 (record {
           out_old = first;
           out_new = W.contents result.1;
-          err_old = X.told err.old;
-          err_new = X.told err.new;
-          files_old = F.contents files.old;
-          files_new = F.contents files.new;
+          err_old = X.told outside.old.err;
+          err_new = X.told outside.new.err;
+          files_old = F.contents outside.old.files;
+          files_new = F.contents outside.new.files;
           flushed = W.is_flushed result.1;
         }) }
 {
     let (written, out) = write_rest(screen, report.printed.as_slice());
     if written.is_err() {
-        return (tell_lost(err), out);
+        return (tell_lost(&mut outside.err), out);
     }
-    if let Err(status) = record_schedule(alloc, options, report.schedule.entries(), files, err) {
+    if let Err(status) = record_schedule(alloc, options, report.schedule.entries(), outside) {
         return (status, out);
     }
     let status = status_of(report.outcome);
-    tell(report, options.stats, status, err);
+    tell(report, options.stats, status, &mut outside.err);
     (status, out)
 }
 
@@ -74,23 +75,23 @@ fn record_schedule<F: FileSet, X: Telling>(
     alloc: Global,
     options: &Options<'_>,
     schedule: Entries<'_>,
-    files: &mut F,
-    err: &mut X,
+    outside: &mut Outside<F, X>,
 ) -> Result<(), Status>
     ensures recorded { OnOk result
-        (IsRecorded (F.contents files.new) (names_of options.now).recorded schedule.entry) }
+        (IsRecorded (F.contents outside.new.files) (names_of options.now).recorded schedule.entry) }
     ensures unrecorded { IfErr result (λ told. TellsUnwritten (names_of options.now).recorded told
-        (X.told err.old) (X.told err.new)) }
-    ensures told { OnOk result (err.new ≡ err.old) }
-    ensures memory { result ≡ Err Status.Memory → files.new ≡ files.old }
+        (X.told outside.old.err) (X.told outside.new.err)) }
+    ensures told { OnOk result (outside.new.err ≡ outside.old.err) }
+    ensures memory { result ≡ Err Status.Memory → outside.new.files ≡ outside.old.files }
     ensures others { (other : List ℕ) → ¬ IsRecordName (names_of options.now).recorded None other
-        → F.contents files.new other ≡ F.contents files.old other }
-    ensures reads { F.last_fault files.new ≡ F.last_fault files.old }
-    ensures unwritten { F.is_unwritten files.old ≡ false → F.is_unwritten files.new ≡ true
+        → F.contents outside.new.files other ≡ F.contents outside.old.files other }
+    ensures reads { F.last_fault outside.new.files ≡ F.last_fault outside.old.files }
+    ensures unwritten { F.is_unwritten outside.old.files ≡ false
+        → F.is_unwritten outside.new.files ≡ true
         → result ≡ Err Status.Usage }
 {
     match options.record_file {
-        Some(name) => write_schedule(alloc, name, schedule, files, err),
+        Some(name) => write_schedule(alloc, name, schedule, outside),
         None => Ok(()),
     }
 }
@@ -101,30 +102,31 @@ pub(crate) fn write_schedule<F: FileSet, X: Telling>(
     alloc: Global,
     name: &str,
     schedule: Entries<'_>,
-    files: &mut F,
-    err: &mut X,
+    outside: &mut Outside<F, X>,
 ) -> Result<(), Status>
     ensures recorded { OnOk result
-        (IsRecorded (F.contents files.new) (Some name.now) schedule.entry) }
-    ensures told { OnOk result (err.new ≡ err.old) }
+        (IsRecorded (F.contents outside.new.files) (Some name.now) schedule.entry) }
+    ensures told { OnOk result (outside.new.err ≡ outside.old.err) }
     ensures unrecorded { IfErr result (λ told. TellsUnwritten (Some name.now) told
-        (X.told err.old) (X.told err.new)) }
-    ensures memory { result ≡ Err Status.Memory → files.new ≡ files.old }
+        (X.told outside.old.err) (X.told outside.new.err)) }
+    ensures memory { result ≡ Err Status.Memory → outside.new.files ≡ outside.old.files }
     ensures others { (other : List ℕ) → other ≢ name.now
-        → F.contents files.new other ≡ F.contents files.old other }
-    ensures reads { F.last_fault files.new ≡ F.last_fault files.old }
-    ensures writes { OnOk result (F.is_unwritten files.new ≡ F.is_unwritten files.old) }
-    ensures unwritten { F.is_unwritten files.old ≡ false → F.is_unwritten files.new ≡ true
+        → F.contents outside.new.files other ≡ F.contents outside.old.files other }
+    ensures reads { F.last_fault outside.new.files ≡ F.last_fault outside.old.files }
+    ensures writes { OnOk result
+        (F.is_unwritten outside.new.files ≡ F.is_unwritten outside.old.files) }
+    ensures unwritten { F.is_unwritten outside.old.files ≡ false
+        → F.is_unwritten outside.new.files ≡ true
         → result ≡ Err Status.Usage }
 {
     let mut text = Vec::new(alloc);
     if append_schedule(schedule, &mut text).is_err() {
-        return Err(end(err, Status::Memory));
+        return Err(end(&mut outside.err, Status::Memory));
     }
-    match files.write(name, text.as_slice()) {
+    match outside.files.write(name, text.as_slice()) {
         Ok(()) => Ok(()),
         Err(_) => {
-            tell_unwritten(err, name);
+            tell_unwritten(&mut outside.err, name);
             Err(Status::Usage)
         }
     }

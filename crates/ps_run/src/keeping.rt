@@ -51,8 +51,8 @@ fn tell_over<X: Telling>(alloc: Global, err: &mut X) -> Status
     }
 }
 
-/// Whether a record that is asked for would be written over a file that holds the program. Fails for
-/// want of memory.
+/// Whether a record that is asked for would be written over a file that holds the program. Fails
+/// for want of memory.
 fn writes_over<F: FileSet>(
     alloc: Global,
     options: &Options<'_>,

@@ -11,8 +11,8 @@
 //! - What standard error is told goes through `Telling`, which remembers whether a write failed. So
 //!   clauses say that a line is told whole, unless one did; behind that nothing more is told. How
 //!   far many runs are is shown beside it (`Progress`), as a line that goes again.
-//! - The names of a program's file are compared in the words, and what files hold before anything is
-//!   written (`keep_program`): a link, another path or standard input have other names.
+//! - The names of a program's file are compared in the words, and what files hold before anything
+//!   is written (`keep_program`): a link, another path or standard input have other names.
 //! - A file set remembers why a read failed and that a write did (`last_fault`, `is_unwritten`), so
 //!   that clauses tie the status to it.
 //! - The record is written whole, behind the printed bytes, so no file has half a record by our
@@ -23,6 +23,8 @@
 //! - The output goes through a run by value, inside a screen, and comes back with the status: a
 //!   struct holds no reference that writes. A run that isn't streamed is made with the same screen,
 //!   which is handed nothing before the end, so both are one code and one proof.
+//! - So the output isn't in `Outside`, which is lent to each call: files and standard error are
+//!   used before a run and behind it, and never by its threads.
 //! - Chance stands here alone, as a generator with a fixed seed. An ending is what was printed with
 //!   the outcome (`AreEndings`); how often each came isn't counted.
 //! - A run that wants memory ends an exploration, since it tells of the machine and not of a
@@ -40,6 +42,7 @@ mod finishing;
 mod keeping;
 mod making;
 mod outputs;
+mod outside;
 mod progress;
 mod reading;
 mod statuses;
@@ -51,6 +54,7 @@ mod writing;
 pub use driver::drive;
 pub use files::{FileSet, MOST_PROGRAM_BYTES, ReadFault, WriteFault};
 pub use outputs::{ErrorOutput, Flushed, Flushing, Telling};
+pub use outside::Outside;
 pub use progress::{NoProgress, Progress};
 pub use systems::System;
 pub use telling::refuse_no_text;

@@ -22,7 +22,8 @@ use std::sync::Wait;
 use std::thread::Threads;
 
 /// A run of the program: under the schedule that is given, or with the budget that is asked for,
-/// over plain memory or in a space that is collected meanwhile. Who watches is shown what it prints.
+/// over plain memory or in a space that is collected meanwhile. Who watches is shown what it
+/// prints.
 pub(crate) fn make<
     S: Interpret + Drop + Send,
     D: Deeds + Drop + Send,

@@ -1,5 +1,5 @@
-//! Outputs that tell whether all that they took was flushed, or whether they took all that they were
-//! told.
+//! Outputs that tell whether all that they took was flushed, or whether they took all that they
+//! were told.
 
 ghost use Rattle.std.specs.Prelude.{◌≡◌, Bool, true, false, OnOk};
 ghost use Rattle.std.specs.Io.{WritesAtMost};
@@ -79,8 +79,8 @@ impl<W: Write> Flushing for Flushed<W> {
     }
 }
 
-/// An output for lines of text, which remembers whether it did not take one whole. From then on it is
-/// left alone.
+/// An output for lines of text, which remembers whether it did not take one whole. From then on it
+/// is left alone.
 pub trait Telling {
     ghost use Rattle.ps_run.specs.Telling.{Tells, Told};
 

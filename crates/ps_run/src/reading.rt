@@ -1,5 +1,5 @@
-//! The files that a run is made of: the program's, and that of a schedule to follow, whose lines are
-//! judged while they are read.
+//! The files that a run is made of: the program's, and that of a schedule to follow, whose lines
+//! are judged while they are read.
 
 ghost use Rattle.std.specs.Prelude.{◌≡◌, ◌≢◌, ◌⊎◌, ◌≤◌, ℕ, Some, None, Ok, Err, OnOk, IfOk, IfErr, IfSome, option_map, vec_len, ◌<◌, codes, length};
 ghost use Rattle.ps_run_schedules.specs.Texts.{AreEntries, IsBadAt, text_of};
@@ -9,6 +9,7 @@ ghost use Rattle.ps_run.specs.Telling.{Tells};
 
 use crate::files::{FileSet, MOST_PROGRAM_BYTES, ReadFault};
 use crate::outputs::Telling;
+use crate::outside::Outside;
 use crate::statuses::{Status, end};
 use crate::writing::tell_number;
 use ps_run_options::{Options, ProgramSource};
@@ -86,37 +87,38 @@ fn read_whole<F: FileSet>(alloc: Global, files: &mut F) -> Result<Option<Vec<u8>
     Err(ReadFault::Memory)
 }
 
-/// The bytes of the program, at most 16,777,215: its text, or those of its file. Where they can't be
-/// had that is told, and the status is the error.
+/// The bytes of the program, at most 16,777,215: its text, or those of its file. Where they can't
+/// be had that is told, and the status is the error.
 pub(crate) fn read_program<F: FileSet, X: Telling>(
     alloc: Global,
     options: &Options<'_>,
-    files: &mut F,
-    err: &mut X,
+    outside: &mut Outside<F, X>,
 ) -> Result<Vec<u8>, Status>
     ensures program { IfOk result
-        (λ bytes. IsProgramIn (F.contents files.old) (names_of options.now) bytes.items) }
-    ensures told { OnOk result (err.new ≡ err.old) }
-    ensures kept { F.contents files.new ≡ F.contents files.old }
-    ensures succeeded { OnOk result (F.last_fault files.new ≡ F.last_fault files.old) }
-    ensures writes { F.is_unwritten files.new ≡ F.is_unwritten files.old }
-    ensures unread { F.last_fault files.old ≡ None → IfErr result
-        (λ told. IfSome (F.last_fault files.new) (λ fault. IsUnread (names_of options.now) fault
-        told
-        (X.told err.old) (X.told err.new))) }
+        (λ bytes. IsProgramIn (F.contents outside.old.files) (names_of options.now) bytes.items) }
+    ensures told { OnOk result (outside.new.err ≡ outside.old.err) }
+    ensures kept { F.contents outside.new.files ≡ F.contents outside.old.files }
+    ensures succeeded { OnOk result
+        (F.last_fault outside.new.files ≡ F.last_fault outside.old.files) }
+    ensures writes { F.is_unwritten outside.new.files ≡ F.is_unwritten outside.old.files }
+    ensures unread { F.last_fault outside.old.files ≡ None → IfErr result
+        (λ told. IfSome (F.last_fault outside.new.files)
+        (λ fault. IsUnread (names_of options.now) fault told
+        (X.told outside.old.err) (X.told outside.new.err))) }
     ensures fault { IfErr result (λ told. ((told ≡ Status.Memory)
-        × Tells (X.told err.old) (X.told err.new) (driving.line_of Status.Memory))
-        ⊎ ((told ≡ Status.Usage) × HasNoProgram (F.contents files.old) (names_of options.now)
-        (X.told err.old) (X.told err.new))) }
+        × Tells (X.told outside.old.err) (X.told outside.new.err) (driving.line_of Status.Memory))
+        ⊎ ((told ≡ Status.Usage)
+        × HasNoProgram (F.contents outside.old.files) (names_of options.now)
+        (X.told outside.old.err) (X.told outside.new.err))) }
 {
     match options.source {
-        ProgramSource::File(name) => read_file(alloc, name, files, err),
-        ProgramSource::Text(text) => copy_text(alloc, text, err),
+        ProgramSource::File(name) => read_file(alloc, name, outside),
+        ProgramSource::Text(text) => copy_text(alloc, text, &mut outside.err),
     }
 }
 
-/// The bytes of a text that is a program. Where it is too long, or memory is wanted, that is told, and
-/// the status is the error.
+/// The bytes of a text that is a program. Where it is too long, or memory is wanted, that is told,
+/// and the status is the error.
 fn copy_text<X: Telling>(alloc: Global, text: &str, err: &mut X) -> Result<Vec<u8>, Status>
     ensures few { IfOk result (λ bytes. vec_len bytes ≤ most_program_bytes) }
     ensures bytes { IfOk result (λ bytes. bytes.items ≡ text.now) }
@@ -141,33 +143,34 @@ fn copy_text<X: Telling>(alloc: Global, text: &str, err: &mut X) -> Result<Vec<u
 fn read_file<F: FileSet, X: Telling>(
     alloc: Global,
     name: &str,
-    files: &mut F,
-    err: &mut X,
+    outside: &mut Outside<F, X>,
 ) -> Result<Vec<u8>, Status>
     ensures few { IfOk result (λ bytes. vec_len bytes ≤ most_program_bytes) }
     ensures bytes { IfOk result
-        (λ bytes. IfSome (F.contents files.old name.now) (λ known. bytes.items ≡ known)) }
-    ensures told { OnOk result (err.new ≡ err.old) }
-    ensures kept { F.contents files.new ≡ F.contents files.old }
-    ensures succeeded { OnOk result (F.last_fault files.new ≡ F.last_fault files.old) }
-    ensures writes { F.is_unwritten files.new ≡ F.is_unwritten files.old }
-    ensures unread { F.last_fault files.old ≡ None → IfErr result
-        (λ told. IfSome (F.last_fault files.new) (λ fault. (told ≡ driving.unread fault)
-        × Tells (X.told err.old) (X.told err.new) (driving.unread_lines fault name.now))) }
+        (λ bytes. IfSome (F.contents outside.old.files name.now) (λ known. bytes.items ≡ known)) }
+    ensures told { OnOk result (outside.new.err ≡ outside.old.err) }
+    ensures kept { F.contents outside.new.files ≡ F.contents outside.old.files }
+    ensures succeeded { OnOk result
+        (F.last_fault outside.new.files ≡ F.last_fault outside.old.files) }
+    ensures writes { F.is_unwritten outside.new.files ≡ F.is_unwritten outside.old.files }
+    ensures unread { F.last_fault outside.old.files ≡ None → IfErr result
+        (λ told. IfSome (F.last_fault outside.new.files) (λ fault. (told ≡ driving.unread fault)
+        × Tells (X.told outside.old.err) (X.told outside.new.err)
+        (driving.unread_lines fault name.now))) }
     ensures fault { IfErr result (λ told. ((told ≡ Status.Memory)
-        × Tells (X.told err.old) (X.told err.new) (driving.line_of Status.Memory))
-        ⊎ ((told ≡ Status.Usage) × IfSome (F.contents files.old name.now)
+        × Tells (X.told outside.old.err) (X.told outside.new.err) (driving.line_of Status.Memory))
+        ⊎ ((told ≡ Status.Usage) × IfSome (F.contents outside.old.files name.now)
         (λ known. (most_program_bytes < length known)
-        × Tells (X.told err.old) (X.told err.new)
+        × Tells (X.told outside.old.err) (X.told outside.new.err)
         (driving.unread_lines ReadFault.TooLong name.now)))) }
 {
-    if let Err(fault) = files.open(name) {
-        return Err(tell_unread(fault, name, err));
+    if let Err(fault) = outside.files.open(name) {
+        return Err(tell_unread(fault, name, &mut outside.err));
     }
-    match read_whole(alloc, files) {
+    match read_whole(alloc, &mut outside.files) {
         Ok(Some(bytes)) => Ok(bytes),
-        Ok(None) => Err(tell_unread(ReadFault::TooLong, name, err)),
-        Err(fault) => Err(tell_unread(fault, name, err)),
+        Ok(None) => Err(tell_unread(ReadFault::TooLong, name, &mut outside.err)),
+        Err(fault) => Err(tell_unread(fault, name, &mut outside.err)),
     }
 }
 
@@ -215,38 +218,38 @@ fn read_schedule<F: FileSet>(alloc: Global, files: &mut F) -> Result<Vec<Entry>,
 pub(crate) fn read_given<F: FileSet, X: Telling>(
     alloc: Global,
     options: &Options<'_>,
-    files: &mut F,
-    err: &mut X,
+    outside: &mut Outside<F, X>,
 ) -> Result<Option<Vec<Entry>>, Status>
     ensures given { IfOk result
-        (λ given. IsGiven (F.contents files.old) (names_of options.now).replayed
+        (λ given. IsGiven (F.contents outside.old.files) (names_of options.now).replayed
         (option_map (λ schedule. schedule.items) given)) }
-    ensures told { OnOk result (err.new ≡ err.old) }
-    ensures kept { F.contents files.new ≡ F.contents files.old }
-    ensures succeeded { OnOk result (F.last_fault files.new ≡ F.last_fault files.old) }
-    ensures writes { F.is_unwritten files.new ≡ F.is_unwritten files.old }
-    ensures unread { F.last_fault files.old ≡ None → IfErr result
-        (λ told. IfSome (F.last_fault files.new) (λ fault. IsUnread (names_of options.now) fault
-        told
-        (X.told err.old) (X.told err.new))) }
+    ensures told { OnOk result (outside.new.err ≡ outside.old.err) }
+    ensures kept { F.contents outside.new.files ≡ F.contents outside.old.files }
+    ensures succeeded { OnOk result
+        (F.last_fault outside.new.files ≡ F.last_fault outside.old.files) }
+    ensures writes { F.is_unwritten outside.new.files ≡ F.is_unwritten outside.old.files }
+    ensures unread { F.last_fault outside.old.files ≡ None → IfErr result
+        (λ told. IfSome (F.last_fault outside.new.files)
+        (λ fault. IsUnread (names_of options.now) fault told
+        (X.told outside.old.err) (X.told outside.new.err))) }
     ensures fault { IfErr result (λ told. ((told ≡ Status.Memory)
-        × Tells (X.told err.old) (X.told err.new) (driving.line_of Status.Memory))
+        × Tells (X.told outside.old.err) (X.told outside.new.err) (driving.line_of Status.Memory))
         ⊎ ((told ≡ Status.Usage)
-        × HasNoSchedule (F.contents files.old) (names_of options.now).replayed
-        (X.told err.old) (X.told err.new))) }
+        × HasNoSchedule (F.contents outside.old.files) (names_of options.now).replayed
+        (X.told outside.old.err) (X.told outside.new.err))) }
 {
     let Some(name) = options.replay_file else {
         return Ok(None);
     };
-    if let Err(fault) = files.open(name) {
-        return Err(tell_unread(fault, name, err));
+    if let Err(fault) = outside.files.open(name) {
+        return Err(tell_unread(fault, name, &mut outside.err));
     }
-    match read_schedule(alloc, files) {
+    match read_schedule(alloc, &mut outside.files) {
         Ok(schedule) => Ok(Some(schedule)),
-        Err(NoSchedule::Unread(fault)) => Err(tell_unread(fault, name, err)),
-        Err(NoSchedule::Bad(ScheduleFault::Memory)) => Err(end(err, Status::Memory)),
+        Err(NoSchedule::Unread(fault)) => Err(tell_unread(fault, name, &mut outside.err)),
+        Err(NoSchedule::Bad(ScheduleFault::Memory)) => Err(end(&mut outside.err, Status::Memory)),
         Err(NoSchedule::Bad(ScheduleFault::BadLine(line))) => {
-            tell_number(err, b"dpsrun: bad schedule line ", line as u64);
+            tell_number(&mut outside.err, b"dpsrun: bad schedule line ", line as u64);
             Err(Status::Usage)
         }
     }

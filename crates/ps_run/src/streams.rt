@@ -1,7 +1,8 @@
 //! An output to which the printed bytes of a run go, at its end or also while it goes on.
 //!
 //! It keeps what a viewer promises: each part that it took was flushed, and behind one that it did
-//! not take whole it is handed none. So it always holds a beginning of what is printed (`HasShown`).
+//! not take whole it is handed none. So it always holds a beginning of what is printed
+//! (`HasShown`).
 
 ghost use Rattle.std.specs.Prelude.{◌≡◌, ◌≤◌, ℕ, List, Option, true, false, length, OnOk};
 ghost use Rattle.std.specs.Io.KnownBytes.{Appends};
@@ -66,8 +67,9 @@ pub(crate) fn output_of<W: Flushing + Drop>(screen: Screen<Stream<W>>) -> W
     output
 }
 
-/// Writes what of the printed bytes was not handed on before, flushes the output, and gives it back.
-/// `Unseen`: it has a beginning of those bytes. Where it failed before it is handed nothing more.
+/// Writes what of the printed bytes was not handed on before, flushes the output, and gives it
+/// back. `Unseen`: it has a beginning of those bytes. Where it failed before it is handed nothing
+/// more.
 pub(crate) fn write_rest<W: Flushing + Drop>(
     screen: Screen<Stream<W>>,
     printed: &[u8],

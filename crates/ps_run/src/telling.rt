@@ -12,8 +12,8 @@ use clap::error::ErrorKind;
 use ps_run_options::no_text;
 use std::alloc::Global;
 
-/// Tells that the words of a command line are no text, and gives the exit status: 2, or 5 where there
-/// is no memory to tell it.
+/// Tells that the words of a command line are no text, and gives the exit status: 2, or 5 where
+/// there is no memory to tell it.
 pub fn refuse_no_text<X: Telling>(alloc: Global, err: &mut X) -> u8
     ensures { (result ≡ 2) ⊎ (result ≡ 5) }
 {

@@ -8,7 +8,7 @@ use ps_core_laws::collected::Counts;
 use ps_core_laws::sides::{Collects, LoggedMemory, Works};
 use ps_language::kinds::Kind;
 use ps_mem::marks::Mark;
-use ps_mem::{Memory, NeedFault, Permit, Slot};
+use ps_mem::{FieldAt, Memory, NeedFault, Permit, Slot};
 use ps_word::headers::Header;
 use ps_word::words::Word;
 
@@ -89,11 +89,10 @@ impl<M: LoggedMemory + Drop, G: Gate> Memory for Gated<'_, M, G> {
         self.memory.store(slot, address, place, items);
     }
 
-    fn copy(&mut self, slot: Slot, from: u32, from_place: u32, to: u32, to_place: u32, count: u32) {
+    fn copy(&mut self, slot: Slot, from: FieldAt, to: FieldAt, count: u32) {
         let cycle_open = self.memory.is_open();
         self.gate.store(cycle_open);
-        self.memory
-            .copy(slot, from, from_place, to, to_place, count);
+        self.memory.copy(slot, from, to, count);
     }
 
     fn permit(&mut self, slot: Slot, count: u32) -> Permit {

@@ -13,7 +13,7 @@ ghost use Rattle.ps_mem.specs.Shows.{IsValue, AreValues, IsSound, IsWithin, AreW
 
 use ps_language::access::Access;
 use ps_language::kinds::Kind;
-use ps_mem::{Memory, Slot};
+use ps_mem::{FieldAt, Memory, Slot};
 use ps_word::values::Part;
 use ps_word::words::Word;
 
@@ -141,14 +141,15 @@ pub fn copy_elements<M: Memory>(memory: &mut M, slot: Slot, from: Part, to: Part
         (M.heap memory.old)) from))) }
 {
     if from.length != 0 {
-        memory.copy(
-            slot,
-            from.address,
-            from.offset as u32,
-            to.address,
-            to.offset as u32 + place as u32,
-            from.length as u32,
-        );
+        let source = FieldAt {
+            address: from.address,
+            place: from.offset as u32,
+        };
+        let target = FieldAt {
+            address: to.address,
+            place: to.offset as u32 + place as u32,
+        };
+        memory.copy(slot, source, target, from.length as u32);
     }
 }
 

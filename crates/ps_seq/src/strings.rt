@@ -17,7 +17,7 @@ ghost use Rattle.ps_mem.specs.Shows.{IsSound, Shows};
 use crate::reads::read_run;
 use ps_language::access::Access;
 use ps_language::kinds::Kind;
-use ps_mem::{Memory, Slot};
+use ps_mem::{FieldAt, Memory, Slot};
 use ps_word::values::Part;
 use ps_word::words::Word;
 use std::alloc::AllocError;
@@ -398,15 +398,15 @@ pub fn copy_bytes<M: Memory>(
     let target = to.offset as u32 + place as u32;
     let count = from.length as u32;
     if source % BYTES == 0 && target % BYTES == 0 && count % BYTES == 0 && count > 0 {
-        let words = count / BYTES;
-        memory.copy(
-            slot,
-            from.address,
-            source / BYTES,
-            to.address,
-            target / BYTES,
-            words,
-        );
+        let from_field = FieldAt {
+            address: from.address,
+            place: source / BYTES,
+        };
+        let to_field = FieldAt {
+            address: to.address,
+            place: target / BYTES,
+        };
+        memory.copy(slot, from_field, to_field, count / BYTES);
         return Ok(());
     }
     append_bytes(memory, from, read)?;

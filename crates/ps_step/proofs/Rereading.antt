@@ -16,6 +16,7 @@ use Rattle.ps_scan.specs.declared.tokens.Token.{Token}
 use Rattle.ps_ops_control.specs.declared.frames.Source.{Source}
 use Rattle.ps_ops_control.specs.declared.frames.Source.TheVariants.{Program, Text}
 use Rattle.ps_step.specs.declared.texts.TokenTaken.{TokenTaken}
+use Rattle.ps_step.specs.declared.windows.Window.{Window}
 use Rattle.ps_step.specs.declared.texts.TokenTaken.TheVariants.{Done, Turned}
 use Rattle.ps_step.specs.Texts.{Scans}
 use Rattle.ps_step.specs.Windows.{AreRead, IsWindow, StandsBehind, OnDone}
@@ -35,12 +36,12 @@ none_read h address start list none = λ names s shows within.
     (nothing_at all start)
 
 -- they are of every source, from its first place on
-pub no_window : (h : Heap) (source : Source) (list : List ℕ) → list ≡ []
-    → IsWindow h source 0 list
-no_window h Program list none = tt
-no_window h (Text part) list none =
+pub no_window : (h : Heap) (source : Source) (window : Window) → window.start ≡ 0
+    → window.bytes.items ≡ [] → IsWindow h source window
+no_window h Program window begin none = tt
+no_window h (Text part) window begin none =
     let size = ap length none in
-    (none_read h part.address 0 list none, omega (arith, size))
+    (none_read h part.address window.start window.bytes.items none, omega (arith, begin, size))
 
 -- a token that ends before the bytes do that were read is that of the string
 module _ (all : List ℕ) (offset count at start : ℕ) (low : at ≤ count)
@@ -103,22 +104,22 @@ module _ (h : Heap) (part : Part) (list : List ℕ) where
   part_read (Err _) value size none = none_read h part.address part.offset list none
 
 -- a token that stands behind a place of a part of the bytes that were read
-pub in_window : (h : Heap) (part : Part) (at : ℕ) (program : List ℕ) (start : ℕ) (list : List ℕ)
-    → IsWindow h (Text part) start list → (token : Token)
-    → StandsBehind part at start list token
-    → Scans h (Text part) at program list (Ok (Some token))
-in_window h part at program start list window token stands = λ names s shows within.
-    let fits = window.1 in
+pub in_window : (h : Heap) (part : Part) (at : ℕ) (program : List ℕ) (window : Window)
+    → IsWindow h (Text part) window → (token : Token)
+    → StandsBehind part at window.start window.bytes.items token
+    → Scans h (Text part) at program window.bytes.items (Ok (Some token))
+in_window h part at program window read token stands = λ names s shows within.
+    let fits = read.1 in
     stands (bytes s (birth_at h part.address)) within
-    (window.0 names s shows (omega (arith, fits, within)))
+    (read.0 names s shows (omega (arith, fits, within)))
 
-pub words_in_window : (h : Heap) (part : Part) (at : ℕ) (program : List ℕ) (start : ℕ)
-    (list : List ℕ) → IsWindow h (Text part) start list → (result : Option Token)
-    → IfSome result (StandsBehind part at start list)
-    → IfSome result (λ token. Scans h (Text part) at program list (Ok (Some token)))
-words_in_window h part at program start list window (Some token) stands =
-    in_window h part at program start list window token stands
-words_in_window h part at program start list window None stands = tt
+pub words_in_window : (h : Heap) (part : Part) (at : ℕ) (program : List ℕ) (window : Window)
+    → IsWindow h (Text part) window → (result : Option Token)
+    → IfSome result (StandsBehind part at window.start window.bytes.items)
+    → IfSome result (λ token. Scans h (Text part) at program window.bytes.items (Ok (Some token)))
+words_in_window h part at program window read (Some token) stands =
+    in_window h part at program window read token stands
+words_in_window h part at program window read None stands = tt
 
 -- what follows of what was done by operands alone
 pub done_then : {P Q : Type 0} (taken : TokenTaken) → OnDone taken P → (P → Q) → OnDone taken Q

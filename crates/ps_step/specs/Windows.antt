@@ -13,6 +13,7 @@ use Rattle.ps_ops_control.specs.declared.frames.Source.{Source}
 use Rattle.ps_ops_control.specs.declared.frames.Source.TheVariants.{Program, Text}
 use Rattle.ps_step.specs.declared.texts.TokenTaken.{TokenTaken}
 use Rattle.ps_step.specs.declared.texts.TokenTaken.TheVariants.{Done, Turned}
+use Rattle.ps_step.specs.declared.windows.Window.{Window}
 
 -- in every store that the memory shows the list is so many bytes of a string, from a place on
 abbrev pub AreRead : Heap → (address start : ℕ) → List ℕ → Type 0
@@ -21,10 +22,10 @@ AreRead h address start list = (names : List (List ℕ)) (s : Store) → Shows h
     → list ≡ slice_range (bytes s (birth_at h address)) start (start + length list)
 
 -- it is some of the string that is the source
-abbrev pub IsWindow : Heap → Source → (start : ℕ) → List ℕ → Type 0
-IsWindow h Program start list = ⊤
-IsWindow h (Text part) start list = AreRead h part.address start list
-    × (start + length list ≤ part.offset + part.length)
+abbrev pub IsWindow : Heap → Source → Window → Type 0
+IsWindow h Program window = ⊤
+IsWindow h (Text part) window = AreRead h part.address window.start window.bytes.items
+    × (window.start + length window.bytes.items ≤ part.offset + part.length)
 
 -- whatever bytes they are of which the list was read from a place on, behind a place of a part of
 -- these this token stands

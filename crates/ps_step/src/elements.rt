@@ -45,7 +45,6 @@ fn index_of(start: usize, at: usize) -> u16
 pub fn do_first<O: Operate, M: Memory>(
     rest: Part,
     most: u16,
-    operators: &O,
     dictionaries: &Dictionaries,
     operands: &mut Operands,
     memory: &mut M,
@@ -63,7 +62,7 @@ pub fn do_first<O: Operate, M: Memory>(
     let start = rest.address as usize + rest.offset as usize;
     for at in start..start + most as usize {
         let word = element_at(memory, rest, at);
-        match do_quickly(word, operators, dictionaries, operands, memory, true) {
+        match do_quickly::<O, M>(word, dictionaries, operands, memory, true) {
             Quick::Done => {}
             Quick::Enters(body) => {
                 let done = index_of(start, at);

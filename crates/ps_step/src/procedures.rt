@@ -19,6 +19,7 @@ use ps_step_execute::under::Under;
 use ps_step_frames::elements::{Element, element_under, pushed_turn};
 use ps_step_frames::frames::{drop_top, push_rest, top_procedure};
 use ps_step_interpreter::interprets::Run;
+use ps_step_outcome::batches::Batch;
 use ps_step_outcome::turned::Turned;
 use ps_word::values::Part;
 
@@ -54,7 +55,6 @@ fn least(budget: u32, length: u16) -> u16
 fn do_known<O: Operate, M: Memory>(
     rest: Part,
     first: Element,
-    operators: &O,
     context: &mut Context,
     runtime: &mut Runtime<M>,
     slot: Slot,
@@ -73,10 +73,10 @@ fn do_known<O: Operate, M: Memory>(
         refused: false,
     };
     let known = Some(first);
-    match element_under(rest, known, operators, context, runtime, slot) {
+    match element_under::<O, M>(rest, known, context, runtime, slot) {
         Under::Done => None,
-        Under::Fails => Some(pushed_turn(rest, None, operators, context, runtime, attempt)),
-        Under::Left => Some(pushed_turn(rest, known, operators, context, runtime, attempt)),
+        Under::Fails => Some(pushed_turn::<O, M>(rest, None, context, runtime, attempt)),
+        Under::Left => Some(pushed_turn::<O, M>(rest, known, context, runtime, attempt)),
     }
 }
 
@@ -115,7 +115,6 @@ fn may_do(frames: &Frames, budget: u32, count: u16) -> u16
 pub fn run_entered<O: Operate, M: Memory>(
     entered: Part,
     most: u32,
-    operators: &O,
     context: &mut Context,
     runtime: &mut Runtime<M>,
     slot: Slot,
@@ -136,14 +135,7 @@ pub fn run_entered<O: Operate, M: Memory>(
     while end > 0 {
         let dictionaries = &context.dictionaries;
         let operands = &mut context.operands;
-        match do_first(
-            rest,
-            end,
-            operators,
-            dictionaries,
-            operands,
-            &mut runtime.memory,
-        ) {
+        match do_first::<O, M>(rest, end, dictionaries, operands, &mut runtime.memory) {
             First::All => {
                 left -= end as u32;
                 rest = left_of(rest, end);
@@ -164,9 +156,9 @@ pub fn run_entered<O: Operate, M: Memory>(
             }
             First::Treats { done, element } => {
                 let behind = left_of(rest, done);
-                let known = do_known(behind, element, operators, context, runtime, slot);
+                let known = do_known::<O, M>(behind, element, context, runtime, slot);
                 if known.is_some() {
-                    return Run {
+                    return Batch {
                         made: most - left + done as u32,
                         next: known,
                     };
@@ -181,8 +173,8 @@ pub fn run_entered<O: Operate, M: Memory>(
                     refused: false,
                 };
                 let behind = left_of(rest, done);
-                let turn = pushed_turn(behind, None, operators, context, runtime, attempt);
-                return Run {
+                let turn = pushed_turn::<O, M>(behind, None, context, runtime, attempt);
+                return Batch {
                     made: most - left + done as u32,
                     next: Some(turn),
                 };
@@ -192,7 +184,7 @@ pub fn run_entered<O: Operate, M: Memory>(
     if rest.length > 0 {
         push_left(&mut context.frames, &rest);
     }
-    Run {
+    Batch {
         made: most - left,
         next: None,
     }

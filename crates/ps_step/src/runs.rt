@@ -13,11 +13,12 @@ ghost use Rattle.ps_step.specs.Elements.{Begins};
 ghost use Rattle.ps_step.specs.Steps.{own_asks};
 
 use crate::procedures::run_entered;
-use crate::sources::read_source;
+use crate::sources::{Cursor, read_source};
 use crate::texts::{TokenTaken, read_token, text_turn};
+use crate::windows::Window;
 use ps_mem::{Memory, Slot};
 use ps_ops_control::ahead::Ahead;
-use ps_ops_control::frames::{Cause, Frame, Frames, Source, replace_top};
+use ps_ops_control::frames::{Cause, Frame, Frames, replace_top};
 use ps_ops_control::unwinding::frames_to_loop;
 use ps_ops_operands::failure::NotMade;
 use ps_ops_state::lent::{Attempt, Context, Runtime, Shared};
@@ -26,6 +27,7 @@ use ps_step_frames::ahead::turn_ahead;
 use ps_step_frames::frames::drop_top;
 use ps_step_frames::steps::frame_turn;
 use ps_step_interpreter::interprets::Run;
+use ps_step_outcome::batches::Batch;
 use ps_step_outcome::turned::Turned;
 use ps_word::values::Part;
 
@@ -33,8 +35,7 @@ use ps_word::values::Part;
 /// a value that waits, a turn of a loop, the end of `stopped` or of a monitor, or a part of `bind`.
 #[inline(never)]
 pub fn turn_frame<O: Operate, M: Memory>(
-    text: &mut Vec<u8>,
-    operators: &O,
+    window: &mut Window,
     context: &mut Context,
     runtime: &mut Runtime<M>,
     attempt: Attempt,
@@ -49,10 +50,14 @@ pub fn turn_frame<O: Operate, M: Memory>(
         unreachable!()
     };
     match top {
-        Frame::Text { source, at } => text_turn(
-            source, at, text, operators, context, runtime, attempt,
+        Frame::Text { source, at } => text_turn::<O, M>(
+            Cursor { source, at },
+            window,
+            context,
+            runtime,
+            attempt,
         ),
-        _ => frame_turn(top, operators, context, runtime, attempt),
+        _ => frame_turn::<O, M>(top, context, runtime, attempt),
     }
 }
 
@@ -71,24 +76,24 @@ fn with_turn(made: u32, turn: Result<Turned, NotMade>, most: u32, frames: &mut F
         (record new { frames = frames.new }) }
 {
     match turn {
-        Ok(Turned::Goes) => Run {
+        Ok(Turned::Goes) => Batch {
             made: made + 1,
             next: None,
         },
         Ok(Turned::Breaks(Cause::Exit)) => match frames_to_loop(frames, most - made - 1) {
             Some(count) => {
                 frames.discard(count as usize);
-                Run {
+                Batch {
                     made: made + 1 + count,
                     next: None,
                 }
             }
-            None => Run {
+            None => Batch {
                 made,
                 next: Some(turn),
             },
         },
-        _ => Run {
+        _ => Batch {
             made,
             next: Some(turn),
         },
@@ -101,18 +106,16 @@ fn with_turn(made: u32, turn: Result<Turned, NotMade>, most: u32, frames: &mut F
 /// change, the string doesn't. The records go into the log of a slot.
 #[inline(always)]
 fn run_text<O: Operate, M: Memory>(
-    source: Source,
-    at: usize,
+    cursor: Cursor,
     most: u32,
     slot: Slot,
-    text: &mut Vec<u8>,
-    operators: &O,
+    window: &mut Window,
     context: &mut Context,
     runtime: &mut Runtime<M>,
 ) -> Run
     requires good { IsGood (lent_of M.heap M.grants context.old runtime.old) }
     requires some { 1 ≤ most }
-    requires top { first_of context.old.frames ≡ Some (Frame.Text source at) }
+    requires top { first_of context.old.frames ≡ Some (Frame.Text cursor.source cursor.at) }
     ensures within { result.made ≤ most }
     ensures fewer { IsSome result.next → result.made < most }
     ensures more { IsNone result.next → 1 ≤ result.made }
@@ -120,24 +123,13 @@ fn run_text<O: Operate, M: Memory>(
         (lent_of M.heap M.grants context.old runtime.old)
         (lent_of M.heap M.grants context.new runtime.new) }
 {
-    let mut place = at;
-    let mut start = 0;
+    let mut place = cursor;
     let mut made = 0;
-    read_source(
-        source,
-        at,
-        runtime.shared.program,
-        &mut start,
-        text,
-        &mut runtime.memory,
-    );
+    read_source(cursor, runtime.shared.program, window, &mut runtime.memory);
     while made < most {
-        match read_token(
-            &source,
-            place,
-            &mut start,
-            text,
-            operators,
+        match read_token::<O, M>(
+            &place,
+            window,
             context,
             runtime,
             Attempt {
@@ -146,14 +138,15 @@ fn run_text<O: Operate, M: Memory>(
             },
         ) {
             TokenTaken::Done(end) => {
-                place = end;
+                place.at = end;
                 made += 1;
             }
             TokenTaken::Turned(turn) => return with_turn(made, turn, most, &mut context.frames),
         }
     }
-    replace_top(&mut context.frames, Frame::Text { source, at: place });
-    Run { made, next: None }
+    let Cursor { source, at } = place;
+    replace_top(&mut context.frames, Frame::Text { source, at });
+    Batch { made, next: None }
 }
 
 /// Makes the first steps of the topmost frame where none goes ahead, at most so many: of a text
@@ -163,8 +156,7 @@ fn run_text<O: Operate, M: Memory>(
 pub fn run_turns<O: Operate, M: Memory>(
     most: u32,
     slot: Slot,
-    text: &mut Vec<u8>,
-    operators: &O,
+    window: &mut Window,
     context: &mut Context,
     runtime: &mut Runtime<M>,
 ) -> Run
@@ -182,15 +174,20 @@ pub fn run_turns<O: Operate, M: Memory>(
         unreachable!()
     };
     match top {
-        Frame::Text { source, at } => run_text(
-            source, at, most, slot, text, operators, context, runtime,
+        Frame::Text { source, at } => run_text::<O, M>(
+            Cursor { source, at },
+            most,
+            slot,
+            window,
+            context,
+            runtime,
         ),
         _ => {
             let attempt = Attempt {
                 slot,
                 refused: false,
             };
-            let turn = turn_frame(text, operators, context, runtime, attempt);
+            let turn = turn_frame::<O, M>(window, context, runtime, attempt);
             with_turn(0, turn, most, &mut context.frames)
         }
     }
@@ -253,7 +250,6 @@ fn begin_with<M: Memory>(
 fn run_frame<O: Operate, M: Memory>(
     most: u32,
     slot: Slot,
-    operators: &O,
     context: &mut Context,
     runtime: &mut Runtime<M>,
 ) -> Option<Run>
@@ -276,13 +272,13 @@ fn run_frame<O: Operate, M: Memory>(
     match begin_with(top, context, &runtime.shared, &mut runtime.memory) {
         Begin::Enters { rest, made } => {
             let left = most - made;
-            let run = run_entered(rest, left, operators, context, runtime, slot);
-            Some(Run {
+            let run = run_entered::<O, M>(rest, left, context, runtime, slot);
+            Some(Batch {
                 made: made + run.made,
                 next: run.next,
             })
         }
-        Begin::Goes => Some(Run {
+        Begin::Goes => Some(Batch {
             made: 1,
             next: None,
         }),
@@ -296,7 +292,6 @@ fn run_frame<O: Operate, M: Memory>(
 pub fn run_ahead<O: Operate, M: Memory>(
     most: u32,
     slot: Slot,
-    operators: &O,
     context: &mut Context,
     runtime: &mut Runtime<M>,
 ) -> Run
@@ -309,8 +304,8 @@ pub fn run_ahead<O: Operate, M: Memory>(
 {
     let mut made = 0;
     while made < most && context.frames.len() > 0 {
-        let Some(run) = run_frame(most - made, slot, operators, context, runtime) else {
-            return Run { made, next: None };
+        let Some(run) = run_frame::<O, M>(most - made, slot, context, runtime) else {
+            return Batch { made, next: None };
         };
         made += run.made;
         if let Some(turn) = run.next {
@@ -321,5 +316,5 @@ pub fn run_ahead<O: Operate, M: Memory>(
             made = run.made;
         }
     }
-    Run { made, next: None }
+    Batch { made, next: None }
 }

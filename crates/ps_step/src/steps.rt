@@ -4,6 +4,7 @@ ghost use Rattle.ps_step.specs.Few.{own_few};
 ghost use Rattle.ps_step.specs.Steps.{own_asks};
 
 use crate::runs::{run_ahead, run_turns, turn_frame};
+use crate::windows::Window;
 use ps_mem::{Memory, Slot};
 use ps_ops_control::frames::Cause;
 use ps_ops_operands::failure::NotMade;
@@ -11,14 +12,31 @@ use ps_ops_state::lent::{Attempt, Context, Runtime};
 use ps_step_execute::operates::Operate;
 use ps_step_frames::unwindings::unwind_turn;
 use ps_step_interpreter::interprets::{Interpret, Run};
+use ps_step_outcome::batches::Batch;
 use ps_step_outcome::turned::Turned;
+use std::alloc::Global;
+use std::marker::PhantomData;
 
 /// Makes the steps of contexts by these operators.
 #[derive(Clone, Debug, Drop)]
 pub struct Steps<O> {
-    pub operators: O,
-    /// What a string that is executed is read into; it keeps its room.
-    pub text: Vec<u8>,
+    operators: PhantomData<O>,
+    /// What was read of a string that is executed; it keeps its room.
+    window: Window,
+}
+
+impl<O> Steps<O> {
+    /// Their maker before its first step.
+    #[inline]
+    pub fn new(alloc: Global) -> Steps<O> {
+        Steps {
+            operators: PhantomData,
+            window: Window {
+                start: 0,
+                bytes: Vec::new(alloc),
+            },
+        }
+    }
 }
 
 impl<O: Operate> Interpret for Steps<O> {
@@ -39,7 +57,7 @@ impl<O: Operate> Interpret for Steps<O> {
         };
         match unwinding {
             Some(cause) => unwind_turn(cause, top, context, runtime, attempt),
-            None => turn_frame(&mut self.text, &self.operators, context, runtime, attempt),
+            None => turn_frame::<O, M>(&mut self.window, context, runtime, attempt),
         }
     }
 
@@ -52,33 +70,33 @@ impl<O: Operate> Interpret for Steps<O> {
         context: &mut Context,
         runtime: &mut Runtime<M>,
     ) -> Run {
-        let Steps { operators, text } = self;
+        let window = &mut self.window;
         let mut made = 0;
         while made < most && context.frames.len() > 0 {
-            let run = run_ahead(most - made, slot, operators, context, runtime);
+            let run = run_ahead::<O, M>(most - made, slot, context, runtime);
             made += run.made;
             if run.next.is_some() {
-                return Run {
+                return Batch {
                     made,
                     next: run.next,
                 };
             }
             if made == most {
-                return Run { made, next: None };
+                return Batch { made, next: None };
             }
             if context.frames.len() == 0 {
-                return Run { made, next: None };
+                return Batch { made, next: None };
             }
-            let run = run_turns(most - made, slot, text, operators, context, runtime);
+            let run = run_turns::<O, M>(most - made, slot, window, context, runtime);
             made += run.made;
             if run.next.is_some() {
-                return Run {
+                return Batch {
                     made,
                     next: run.next,
                 };
             }
         }
-        Run { made, next: None }
+        Batch { made, next: None }
     }
 
     ghost few = { own_few O.asks O.few };

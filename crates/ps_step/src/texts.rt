@@ -16,59 +16,70 @@ ghost use Rattle.ps_step.specs.Texts.{IsFaulty, IsScanned, Starves, IsTaken, sca
 ghost use Rattle.ps_step.specs.Texts.{scanned_asks, text_asks};
 ghost use Rattle.ps_step.specs.Windows.{IsWindow, OnDone};
 
-use crate::sources::{scan_source, scanned_bytes};
+use crate::sources::{Cursor, scan_source, scanned_bytes};
 use crate::tokens::{Read, literal_ahead, word_ahead};
+use crate::windows::Window;
 use ps_language::errors::ErrorName;
 use ps_mem::Memory;
-use ps_ops_control::frames::{Frame, Source, replace_top};
+use ps_ops_control::frames::{Frame, replace_top};
 use ps_ops_operands::failure::NotMade;
 use ps_ops_operands::plain;
 use ps_ops_state::lent::{Attempt, Context, Runtime};
-use ps_scan::{ScanFault, Token, TokenKind};
+use ps_scan::{ScanFault, Token};
 use ps_step_execute::operates::Operate;
 use ps_step_execute::values::treat;
+use ps_step_frames::elements::Element;
 use ps_step_frames::frames::drop_top;
 use ps_step_outcome::raises::raise;
 use ps_step_outcome::turned::Turned;
 use ps_step_tokens::tokens::do_token;
-use ps_word::words::Word;
 
 /// A token that was scanned is taken, and done.
 ///
 /// Not made, with nothing changed: as the token.
 #[inline(always)]
 fn take_token<O: Operate, M: Memory>(
-    source: Source,
-    at: usize,
-    end: usize,
-    kind: &TokenKind,
+    cursor: Cursor,
+    token: &Token,
     text: &[u8],
-    operators: &O,
     context: &mut Context,
     runtime: &mut Runtime<M>,
     attempt: Attempt,
 ) -> Result<Turned, NotMade>
     requires good { IsGood (lent_of M.heap M.grants context.old runtime.old) }
-    requires top { first_of context.old.frames ≡ Some (Frame.Text source at) }
-    requires short { IsShort (token_of text.now kind.now) }
+    requires top { first_of context.old.frames ≡ Some (Frame.Text cursor.source cursor.at) }
+    requires short { IsShort (token_of text.now token.now.kind) }
     requires further { IsSourceAt (M.heap runtime.old.memory)
-        (length runtime.old.shared.program.now) source end }
+        (length runtime.old.shared.program.now) cursor.source token.now.end }
     requires scanned { (s : Store) → IsShown
         (lent_of M.heap M.grants context.old runtime.old) s
-        → scan_at source at
+        → scan_at cursor.source cursor.at
         (lent_of M.heap M.grants context.old runtime.old) s
-        ≡ found (token_of text.now kind.now) end }
+        ≡ found (token_of text.now token.now.kind) token.now.end }
     ensures { Turns (λ l s.
-        scanned_asks O.asks source (drop 1 context.old.frames) (scan_at source at l s) l s)
+        scanned_asks O.asks cursor.source (drop 1 context.old.frames) (scan_at cursor.source
+        cursor.at l s) l s)
         running_turn attempt result
         (lent_of M.heap M.grants context.old runtime.old)
         (lent_of M.heap M.grants context.new runtime.new) }
 {
-    replace_top(&mut context.frames, Frame::Text { source, at: end });
-    match do_token(kind, text, operators, context, runtime, attempt) {
+    replace_top(
+        &mut context.frames,
+        Frame::Text {
+            source: cursor.source,
+            at: token.end,
+        },
+    );
+    match do_token::<O, M>(&token.kind, text, context, runtime, attempt) {
         Ok(turned) => Ok(turned),
         Err(reason) => {
-            replace_top(&mut context.frames, Frame::Text { source, at });
+            replace_top(
+                &mut context.frames,
+                Frame::Text {
+                    source: cursor.source,
+                    at: cursor.at,
+                },
+            );
             Err(reason)
         }
     }
@@ -79,22 +90,23 @@ fn take_token<O: Operate, M: Memory>(
 /// `Memory`: there was none to scan. Not made, with nothing changed: also as the note of an error.
 #[inline(never)]
 fn fault_turn<O: Operate, M: Memory>(
-    source: Source,
-    at: usize,
+    cursor: Cursor,
     fault: ScanFault,
     context: &mut Context,
     runtime: &mut Runtime<M>,
     attempt: Attempt,
 ) -> Result<Turned, NotMade>
     requires good { IsGood (lent_of M.heap M.grants context.old runtime.old) }
-    requires top { first_of context.old.frames ≡ Some (Frame.Text source at) }
+    requires top { first_of context.old.frames ≡ Some (Frame.Text cursor.source cursor.at) }
     requires fault { (s : Store) → IsShown
         (lent_of M.heap M.grants context.old runtime.old) s
-        → let outcome = scan_at source at
+        → let outcome = scan_at cursor.source cursor.at
         (lent_of M.heap M.grants context.old runtime.old) s in
-        IsFaulty (Starves (source_of (birth_at (M.heap runtime.old.memory)) source) outcome) fault
+        IsFaulty (Starves (source_of (birth_at (M.heap runtime.old.memory)) cursor.source) outcome)
+        fault
         outcome }
-    ensures { Turns (text_asks O.asks source at (drop 1 context.old.frames)) running_turn attempt
+    ensures { Turns (text_asks O.asks cursor.source cursor.at (drop 1 context.old.frames))
+        running_turn attempt
         result
         (lent_of M.heap M.grants context.old runtime.old)
         (lent_of M.heap M.grants context.new runtime.new) }
@@ -126,29 +138,30 @@ fn fault_turn<O: Operate, M: Memory>(
 /// of an error.
 #[inline(never)]
 fn scanned_turn<O: Operate, M: Memory>(
-    source: &Source,
-    at: usize,
+    cursor: &Cursor,
     scanned: Result<Option<Token>, ScanFault>,
     text: &[u8],
-    operators: &O,
     context: &mut Context,
     runtime: &mut Runtime<M>,
     attempt: Attempt,
 ) -> Result<Turned, NotMade>
     requires good { IsGood (lent_of M.heap M.grants context.old runtime.old) }
-    requires top { first_of context.old.frames ≡ Some (Frame.Text source.now at) }
+    requires top { first_of context.old.frames ≡ Some (Frame.Text cursor.now.source cursor.now.at) }
     requires scanned { (s : Store) → IsShown
         (lent_of M.heap M.grants context.old runtime.old) s
-        → let outcome = scan_at source.now at
+        → let outcome = scan_at cursor.now.source cursor.now.at
         (lent_of M.heap M.grants context.old runtime.old) s in
-        IsScanned (Starves (source_of (birth_at (M.heap runtime.old.memory)) source.now) outcome)
+        IsScanned (Starves (source_of (birth_at (M.heap runtime.old.memory)) cursor.now.source)
+        outcome)
         text.now
         scanned outcome }
     requires token { IsTaken
-        (IsSourceAt (M.heap runtime.old.memory) (length runtime.old.shared.program.now) source.now)
+        (IsSourceAt (M.heap runtime.old.memory) (length runtime.old.shared.program.now)
+        cursor.now.source)
         text.now
         scanned }
-    ensures { Turns (text_asks O.asks source.now at (drop 1 context.old.frames)) running_turn
+    ensures { Turns (text_asks O.asks cursor.now.source cursor.now.at (drop 1 context.old.frames))
+        running_turn
         attempt
         result
         (lent_of M.heap M.grants context.old runtime.old)
@@ -159,18 +172,8 @@ fn scanned_turn<O: Operate, M: Memory>(
             drop_top(&mut context.frames);
             Ok(Turned::Goes)
         }
-        Ok(Some(token)) => take_token(
-            *source,
-            at,
-            token.end,
-            &token.kind,
-            text,
-            operators,
-            context,
-            runtime,
-            attempt,
-        ),
-        Err(fault) => fault_turn::<O, M>(*source, at, fault, context, runtime, attempt),
+        Ok(Some(token)) => take_token::<O, M>(*cursor, &token, text, context, runtime, attempt),
+        Err(fault) => fault_turn::<O, M>(*cursor, fault, context, runtime, attempt),
     }
 }
 
@@ -189,38 +192,37 @@ pub enum TokenTaken {
 /// Not made, with nothing changed but for the frame, which is read up to the token: as the value.
 #[inline(never)]
 fn treat_token<O: Operate, M: Memory>(
-    source: &Source,
-    at: usize,
+    cursor: &Cursor,
+    element: Element,
     end: usize,
-    word: Word,
-    value: Word,
-    operators: &O,
     context: &mut Context,
     runtime: &mut Runtime<M>,
     attempt: Attempt,
 ) -> Result<Turned, NotMade>
     requires framed { 1 ≤ length context.old.frames }
-    requires good { IsGood (read_to source.now at
+    requires good { IsGood (read_to cursor.now.source cursor.now.at
         (lent_of M.heap M.grants context.old runtime.old)) }
-    requires read { IsRead O.asks source.now at word value end (read_to source.now at
+    requires read { IsRead O.asks cursor.now.source cursor.now.at element.word element.value end
+        (read_to cursor.now.source cursor.now.at
         (lent_of M.heap M.grants context.old runtime.old)) }
-    ensures { Turns (text_asks O.asks source.now at (drop 1 context.old.frames)) running_turn
+    ensures { Turns (text_asks O.asks cursor.now.source cursor.now.at (drop 1 context.old.frames))
+        running_turn
         attempt
-        result (read_to source.now at
+        result (read_to cursor.now.source cursor.now.at
         (lent_of M.heap M.grants context.old runtime.old))
         (lent_of M.heap M.grants context.new runtime.new) }
 {
     let behind = Frame::Text {
-        source: *source,
+        source: cursor.source,
         at: end,
     };
     replace_top(&mut context.frames, behind);
-    match treat(value, word, operators, context, runtime, attempt) {
+    match treat::<O, M>(element.value, element.word, context, runtime, attempt) {
         Ok(turned) => Ok(turned),
         Err(reason) => {
             let before = Frame::Text {
-                source: *source,
-                at,
+                source: cursor.source,
+                at: cursor.at,
             };
             replace_top(&mut context.frames, before);
             Err(reason)
@@ -232,30 +234,30 @@ fn treat_token<O: Operate, M: Memory>(
 /// it is; or the frame goes on from that place and the turn is made.
 #[inline(always)]
 fn take_scanned<O: Operate, M: Memory>(
-    source: &Source,
-    at: usize,
+    cursor: &Cursor,
     scanned: Result<Option<Token>, ScanFault>,
     text: &[u8],
-    operators: &O,
     context: &mut Context,
     runtime: &mut Runtime<M>,
     attempt: Attempt,
 ) -> TokenTaken
     requires framed { 1 ≤ length context.old.frames }
-    requires good { IsGood (read_to source.now at
+    requires good { IsGood (read_to cursor.now.source cursor.now.at
         (lent_of M.heap M.grants context.old runtime.old)) }
-    requires scanned { (s : Store) → IsShown (read_to source.now at
+    requires scanned { (s : Store) → IsShown (read_to cursor.now.source cursor.now.at
         (lent_of M.heap M.grants context.old runtime.old)) s
-        → let outcome = scan_at source.now at
+        → let outcome = scan_at cursor.now.source cursor.now.at
         (lent_of M.heap M.grants context.old runtime.old) s in
-        IsScanned (Starves (source_of (birth_at (M.heap runtime.old.memory)) source.now) outcome)
+        IsScanned (Starves (source_of (birth_at (M.heap runtime.old.memory)) cursor.now.source)
+        outcome)
         text.now
         scanned outcome }
     requires token { IsTaken
-        (IsSourceAt (M.heap runtime.old.memory) (length runtime.old.shared.program.now) source.now)
+        (IsSourceAt (M.heap runtime.old.memory) (length runtime.old.shared.program.now)
+        cursor.now.source)
         text.now
         scanned }
-    ensures takes { Takes O.asks source.now at attempt result
+    ensures takes { Takes O.asks cursor.now.source cursor.now.at attempt result
         (lent_of M.heap M.grants context.old runtime.old)
         (lent_of M.heap M.grants context.new runtime.new) }
     ensures heap { OnDone result (M.heap runtime.new.memory ≡ M.heap runtime.old.memory) }
@@ -264,144 +266,106 @@ fn take_scanned<O: Operate, M: Memory>(
         Some(end) => TokenTaken::Done(end),
         None => {
             let top = Frame::Text {
-                source: *source,
-                at,
+                source: cursor.source,
+                at: cursor.at,
             };
             replace_top(&mut context.frames, top);
-            TokenTaken::Turned(scanned_turn(
-                source, at, scanned, text, operators, context, runtime, attempt,
+            TokenTaken::Turned(scanned_turn::<O, M>(
+                cursor, scanned, text, context, runtime, attempt,
             ))
         }
     }
 }
 
-/// The next token of a text behind a place is taken. Where the list doesn't have it, a string is
-/// read into it as it stands now, as far as the token takes, from a place of the string on.
+/// The next token of a text behind a place is taken. Where the window doesn't have it, a string is
+/// read into it as it stands now, as far as the token takes.
 #[inline(always)]
 fn take_next<O: Operate, M: Memory>(
-    source: &Source,
-    at: usize,
-    start: &mut usize,
-    list: &mut Vec<u8>,
-    operators: &O,
+    cursor: &Cursor,
+    window: &mut Window,
     context: &mut Context,
     runtime: &mut Runtime<M>,
     attempt: Attempt,
 ) -> TokenTaken
     requires framed { 1 ≤ length context.old.frames }
-    requires good { IsGood (read_to source.now at
+    requires good { IsGood (read_to cursor.now.source cursor.now.at
         (lent_of M.heap M.grants context.old runtime.old)) }
-    requires window { IsWindow (M.heap runtime.old.memory) source.now start.old list.old.items }
-    ensures takes { Takes O.asks source.now at attempt result
+    requires window { IsWindow (M.heap runtime.old.memory) cursor.now.source window.old }
+    ensures takes { Takes O.asks cursor.now.source cursor.now.at attempt result
         (lent_of M.heap M.grants context.old runtime.old)
         (lent_of M.heap M.grants context.new runtime.new) }
     ensures window { OnDone result
-        (IsWindow (M.heap runtime.new.memory) source.now start.new list.new.items) }
+        (IsWindow (M.heap runtime.new.memory) cursor.now.source window.new) }
 {
     let alloc = *runtime.shared.scratch.text.allocator();
     let program = runtime.shared.program;
-    let scanned = scan_source(
-        *source,
-        at,
-        program,
-        start,
-        list,
-        &mut runtime.memory,
-        alloc,
-    );
-    let text = scanned_bytes(*source, program, list);
-    take_scanned(
-        source, at, scanned, text, operators, context, runtime, attempt,
-    )
+    let scanned = scan_source(*cursor, program, window, &mut runtime.memory, alloc);
+    let text = scanned_bytes(cursor.source, program, window);
+    take_scanned::<O, M>(cursor, scanned, text, context, runtime, attempt)
 }
 
 /// The next token of a text behind a place is taken, as `take_next` does, but a number or an
 /// executable name is scanned in line.
 #[inline(always)]
 pub fn read_token<O: Operate, M: Memory>(
-    source: &Source,
-    at: usize,
-    start: &mut usize,
-    list: &mut Vec<u8>,
-    operators: &O,
+    cursor: &Cursor,
+    window: &mut Window,
     context: &mut Context,
     runtime: &mut Runtime<M>,
     attempt: Attempt,
 ) -> TokenTaken
     requires framed { 1 ≤ length context.old.frames }
-    requires good { IsGood (read_to source.now at
+    requires good { IsGood (read_to cursor.now.source cursor.now.at
         (lent_of M.heap M.grants context.old runtime.old)) }
-    requires window { IsWindow (M.heap runtime.old.memory) source.now start.old list.old.items }
-    ensures takes { Takes O.asks source.now at attempt result
+    requires window { IsWindow (M.heap runtime.old.memory) cursor.now.source window.old }
+    ensures takes { Takes O.asks cursor.now.source cursor.now.at attempt result
         (lent_of M.heap M.grants context.old runtime.old)
         (lent_of M.heap M.grants context.new runtime.new) }
     ensures window { OnDone result
-        (IsWindow (M.heap runtime.new.memory) source.now start.new list.new.items) }
+        (IsWindow (M.heap runtime.new.memory) cursor.now.source window.new) }
 {
-    let program = runtime.shared.program;
     let dictionaries = &context.dictionaries;
     let operands = &mut context.operands;
-    let names = &runtime.shared.names;
-    match word_ahead(
-        *source,
-        at,
-        program,
-        *start,
-        list,
-        operators,
-        dictionaries,
-        names,
-        operands,
-        &mut runtime.memory,
-    ) {
+    let shared = &runtime.shared;
+    let memory = &mut runtime.memory;
+    match word_ahead::<O, M>(*cursor, window, dictionaries, shared, operands, memory) {
         Read::Done(end) => TokenTaken::Done(end),
-        Read::Treats { word, value, end } => TokenTaken::Turned(treat_token(
-            source, at, end, word, value, operators, context, runtime, attempt,
-        )),
-        Read::Left => take_next(
-            source, at, start, list, operators, context, runtime, attempt,
-        ),
+        Read::Treats { word, value, end } => {
+            let element = Element { word, value };
+            let turn = treat_token::<O, M>(cursor, element, end, context, runtime, attempt);
+            TokenTaken::Turned(turn)
+        }
+        Read::Left => take_next::<O, M>(cursor, window, context, runtime, attempt),
     }
 }
 
 /// A step by the topmost frame, a text: its next token is taken and done; with none left the frame
-/// goes. A string is read into the list as it stands now, as far as the token takes. Raises
+/// goes. A string is read into the window as it stands now, as far as the token takes. Raises
 /// `syntaxerror` and `limitcheck` with the command null where the text breaks the grammar or a
 /// limit, and what the token raises.
 ///
 /// `Memory`: a growth was refused, for the string, or for a string or a procedure that is read. Not
 /// made, with nothing changed: also as the token, or the note of an error.
 pub fn text_turn<O: Operate, M: Memory>(
-    source: Source,
-    at: usize,
-    list: &mut Vec<u8>,
-    operators: &O,
+    cursor: Cursor,
+    window: &mut Window,
     context: &mut Context,
     runtime: &mut Runtime<M>,
     attempt: Attempt,
 ) -> Result<Turned, NotMade>
     requires good { IsGood (lent_of M.heap M.grants context.old runtime.old) }
-    requires top { first_of context.old.frames ≡ Some (Frame.Text source at) }
-    ensures { Turns (text_asks O.asks source at (drop 1 context.old.frames)) running_turn attempt
+    requires top { first_of context.old.frames ≡ Some (Frame.Text cursor.source cursor.at) }
+    ensures { Turns (text_asks O.asks cursor.source cursor.at (drop 1 context.old.frames))
+        running_turn attempt
         result
         (lent_of M.heap M.grants context.old runtime.old)
         (lent_of M.heap M.grants context.new runtime.new) }
 {
     let alloc = *runtime.shared.scratch.text.allocator();
     let program = runtime.shared.program;
-    let mut start = 0;
-    list.clear();
-    let scanned = scan_source(
-        source,
-        at,
-        program,
-        &mut start,
-        list,
-        &mut runtime.memory,
-        alloc,
-    );
-    let text = scanned_bytes(source, program, list);
-    scanned_turn(
-        &source, at, scanned, text, operators, context, runtime, attempt,
-    )
+    window.start = 0;
+    window.bytes.clear();
+    let scanned = scan_source(cursor, program, window, &mut runtime.memory, alloc);
+    let text = scanned_bytes(cursor.source, program, window);
+    scanned_turn::<O, M>(&cursor, scanned, text, context, runtime, attempt)
 }

@@ -11,12 +11,12 @@ ghost use Rattle.ps_step.specs.Reading.{Reads, ReadsWord, read_to_end};
 ghost use Rattle.ps_step.specs.Texts.{IsTaken};
 ghost use Rattle.ps_step.specs.Windows.{IsWindow};
 
-use crate::sources::{scan_word, scanned_bytes};
+use crate::sources::{Cursor, scan_word, scanned_bytes};
+use crate::windows::Window;
 use ps_mem::Memory;
 use ps_names::Names;
-use ps_ops_control::frames::Source;
 use ps_ops_operands::Operands;
-use ps_ops_state::lent::Dictionaries;
+use ps_ops_state::lent::{Dictionaries, Shared};
 use ps_scan::{ScanFault, Token};
 use ps_step_execute::operates::Operate;
 use ps_step_execute::pushes::push_quickly;
@@ -43,7 +43,6 @@ pub enum Read {
 fn do_ahead<O: Operate, M: Memory>(
     token: &Token,
     text: &[u8],
-    operators: &O,
     dictionaries: &Dictionaries,
     names: &Names,
     operands: &mut Operands,
@@ -61,7 +60,7 @@ fn do_ahead<O: Operate, M: Memory>(
         return Read::Left;
     };
     let end = token.end;
-    match do_quickly(word, operators, dictionaries, operands, memory, false) {
+    match do_quickly::<O, M>(word, dictionaries, operands, memory, false) {
         Quick::Done => Read::Done(end),
         Quick::Enters(_) => unreachable!(),
         Quick::Treats(value) => Read::Treats { word, value, end },
@@ -104,37 +103,27 @@ pub fn literal_ahead(
 /// as which value it is treated, where its name was met and looked up. The memory stays as it is.
 #[inline(always)]
 pub fn word_ahead<O: Operate, M: Memory>(
-    source: Source,
-    at: usize,
-    program: &[u8],
-    start: usize,
-    list: &Vec<u8>,
-    operators: &O,
+    cursor: Cursor,
+    window: &Window,
     dictionaries: &Dictionaries,
-    names: &Names,
+    shared: &Shared,
     operands: &mut Operands,
     memory: &mut M,
 ) -> Read
     requires sound { IsSound (M.heap memory.old) }
     requires dictionaries { AreValues (M.heap memory.old) dictionaries.now }
-    requires place { IsSourceAt (M.heap memory.old) (length program.now) source at }
-    requires window { IsWindow (M.heap memory.old) source start list.now.items }
+    requires place { IsSourceAt (M.heap memory.old) (length shared.now.program.now) cursor.source
+        cursor.at }
+    requires window { IsWindow (M.heap memory.old) cursor.source window.now }
     ensures heap { M.heap memory.new ≡ M.heap memory.old }
     ensures grants { M.grants memory.new ≡ M.grants memory.old }
-    ensures reads { ReadsWord O.asks (M.heap memory.old) dictionaries.now names.now program.now
-        list.now.items source at result operands.old operands.new }
+    ensures reads { ReadsWord O.asks (M.heap memory.old) dictionaries.now shared.now.names
+        shared.now.program.now window.now.bytes.items cursor.source cursor.at result operands.old
+        operands.new }
 {
-    let Some(token) = scan_word(source, at, program, start, list, memory) else {
+    let Some(token) = scan_word(cursor, shared.program, window, memory) else {
         return Read::Left;
     };
-    let text = scanned_bytes(source, program, list);
-    do_ahead(
-        &token,
-        text,
-        operators,
-        dictionaries,
-        names,
-        operands,
-        memory,
-    )
+    let text = scanned_bytes(cursor.source, shared.program, window);
+    do_ahead::<O, M>(&token, text, dictionaries, &shared.names, operands, memory)
 }

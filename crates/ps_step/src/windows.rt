@@ -29,6 +29,13 @@ const BYTES: u16 = 8;
 /// The bytes of the first window, eight words.
 const FIRST_WINDOW: u16 = 64;
 
+/// Bytes of a string that were read, and the place of the string from which on.
+#[derive(Clone, Debug, Drop)]
+pub struct Window {
+    pub start: usize,
+    pub bytes: Vec<u8>,
+}
+
 /// The bytes of a part of a string are read into the list as they stand now. The memory stays as it
 /// is.
 ///
@@ -179,83 +186,78 @@ fn moved_token(token: Token, from: usize, at: usize) -> Token
     }
 }
 
-/// The first token of a string from a place on, where it ends before the bytes do that stand in a
-/// list: those of the string from another place on. No memory is read.
+/// The first token of a string from a place on, where it ends before the bytes do that were read.
+/// No memory is read.
 #[inline(always)]
-pub fn scan_read(part: Part, at: usize, start: usize, list: &[u8], alloc: Global) -> Option<Token>
+pub fn scan_read(part: Part, at: usize, window: &Window, alloc: Global) -> Option<Token>
     requires within { at ≤ part.length }
     requires end { part.offset + part.length < 2 ^ 16 }
-    requires fits { start + length list.now ≤ part.offset + part.length }
-    ensures scanned { IfSome result (StandsBehind part at start list.now) }
+    requires fits { window.now.start + length window.now.bytes.items ≤ part.offset + part.length }
+    ensures scanned { IfSome result (StandsBehind part at window.now.start window.now.bytes.items) }
     ensures token { IfSome result (λ token. (token.end ≤ part.length)
-        × IsShort (token_of list.now token.kind)) }
+        × IsShort (token_of window.now.bytes.items token.kind)) }
 {
     scanned_is_short();
-    let front = place_read(part, at, start, list)?;
+    let list = window.bytes.as_slice();
+    let front = place_read(part, at, window.start, list)?;
     match next_token(alloc, list, front) {
         Ok(Some(token)) if token.end < list.len() => Some(moved_token(token, front, at)),
         _ => None,
     }
 }
 
-/// The same where it is a number or an executable name. `None`: also where it is another.
+/// The first token of a string from a place on, where it is a number or an executable name and ends
+/// before the bytes do that were read. No memory is read.
 #[inline(always)]
-pub fn word_read(part: Part, at: usize, start: usize, list: &[u8]) -> Option<Token>
+pub fn word_read(part: Part, at: usize, window: &Window) -> Option<Token>
     requires within { at ≤ part.length }
     requires end { part.offset + part.length < 2 ^ 16 }
-    requires fits { start + length list.now ≤ part.offset + part.length }
-    ensures scanned { IfSome result (StandsBehind part at start list.now) }
+    requires fits { window.now.start + length window.now.bytes.items ≤ part.offset + part.length }
+    ensures scanned { IfSome result (StandsBehind part at window.now.start window.now.bytes.items) }
     ensures token { IfSome result (λ token. (token.end ≤ part.length)
-        × IsShort (token_of list.now token.kind)) }
+        × IsShort (token_of window.now.bytes.items token.kind)) }
 {
     scanned_is_short();
-    let front = place_read(part, at, start, list)?;
+    let list = window.bytes.as_slice();
+    let front = place_read(part, at, window.start, list)?;
     match next_word(list, front) {
         Some(token) if token.end < list.len() => Some(moved_token(token, front, at)),
         _ => None,
     }
 }
 
-/// The first words of what is left of a string behind a place are read into a list as they stand
-/// now, or none, where its growth is refused. It tells from which place of the string on. The
-/// memory stays as it is.
+/// The first words of what is left of a string behind a place are read into the window as they
+/// stand now, or none, where its growth is refused. The memory stays as it is.
 #[inline(always)]
-pub fn read_window<M: Memory>(
-    memory: &mut M,
-    part: Part,
-    at: usize,
-    start: &mut usize,
-    list: &mut Vec<u8>,
-)
+pub fn read_window<M: Memory>(memory: &mut M, part: Part, at: usize, window: &mut Window)
     requires sound { IsSound (M.heap memory.old) }
     requires held { IsHeldText (M.heap memory.old) part }
     requires within { at ≤ part.length }
     ensures heap { M.heap memory.new ≡ M.heap memory.old }
     ensures grants { M.grants memory.new ≡ M.grants memory.old }
-    ensures read { AreRead (M.heap memory.old) part.address start.new list.new.items }
-    ensures fits { start.new + length list.new.items ≤ part.offset + part.length }
+    ensures read { AreRead (M.heap memory.old) part.address window.new.start
+        window.new.bytes.items }
+    ensures fits { window.new.start + length window.new.bytes.items ≤ part.offset + part.length }
 {
     let front = (part.offset + at as u16) % BYTES;
     let rest = rest_of(part, at, front);
-    *start = rest.offset as usize;
-    let window = Part {
+    window.start = rest.offset as usize;
+    let first = Part {
         length: rest.length.min(FIRST_WINDOW),
         ..rest
     };
-    let _ = read_part(memory, window, list);
+    let _ = read_part(memory, first, &mut window.bytes);
 }
 
 /// The first token of a string from a place on, with the place right behind it. As much as it takes
-/// is read into the list as it stands now, by whole words; it tells from which place of the string
-/// on. The memory stays as it is.
+/// is read into the window as it stands now, by whole words. The memory stays as it is.
 ///
-/// Faults as the scanner's. `ScanFault::Memory`: also a growth of the list was refused.
+/// Faults as the scanner's. `ScanFault::Memory`: also a growth of the window was refused.
 pub fn scan_string<M: Memory>(
     memory: &mut M,
     part: Part,
     at: usize,
-    start: &mut usize,
-    list: &mut Vec<u8>,
+    window: &mut Window,
     alloc: Global,
 ) -> Result<Option<Token>, ScanFault>
     requires sound { IsSound (M.heap memory.old) }
@@ -265,16 +267,17 @@ pub fn scan_string<M: Memory>(
     ensures grants { M.grants memory.new ≡ M.grants memory.old }
     ensures scanned { (names : List (List ℕ)) (s : Store) → Shows (M.heap memory.old) names s
         → part.offset + part.length ≤ length (bytes s (birth_at (M.heap memory.old) part.address))
-        → IsScanned ⊤ list.new.items result
+        → IsScanned ⊤ window.new.bytes.items result
         (scan (part_bytes s (part_of (birth_at (M.heap memory.old)) part)) at) }
-    ensures token { IsTaken (λ end. end ≤ part.length) list.new.items result }
-    ensures read { AreRead (M.heap memory.old) part.address start.new list.new.items }
-    ensures fits { start.new + length list.new.items ≤ part.offset + part.length }
+    ensures token { IsTaken (λ end. end ≤ part.length) window.new.bytes.items result }
+    ensures read { AreRead (M.heap memory.old) part.address window.new.start
+        window.new.bytes.items }
+    ensures fits { window.new.start + length window.new.bytes.items ≤ part.offset + part.length }
 {
     let front = (part.offset + at as u16) % BYTES;
     let rest = rest_of(part, at, front);
-    *start = rest.offset as usize;
-    match scan_by_windows(memory, rest, front as usize, list, alloc) {
+    window.start = rest.offset as usize;
+    match scan_by_windows(memory, rest, front as usize, &mut window.bytes, alloc) {
         Ok(Some(token)) => Ok(Some(moved_token(token, front as usize, at))),
         Ok(None) => Ok(None),
         Err(fault) => Err(fault),

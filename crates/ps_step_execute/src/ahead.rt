@@ -17,12 +17,7 @@ use ps_word::words::Word;
 /// an operand, a procedure is entered where one may be, up to its frame, and an operator acts
 /// ahead. Else nothing has changed.
 #[inline(always)]
-pub fn treat_ahead<O: Operate>(
-    value: Word,
-    operators: &O,
-    operands: &mut Operands,
-    may_enter: bool,
-) -> Ahead
+pub fn treat_ahead<O: Operate>(value: Word, operands: &mut Operands, may_enter: bool) -> Ahead
     requires word { IsWord value.0 }
     ensures comes { (command : TheWord) → EntersAlone (value ∷ command ∷ [])
         (treated_asks O.asks value) (treated_turn command value) result operands.old operands.new }
@@ -32,7 +27,7 @@ pub fn treat_ahead<O: Operate>(
         return Ahead::of(push_quickly(value, operands));
     }
     if let Some(operator) = value.executable_operator() {
-        return operators.operate_ahead(operator, operands, may_enter);
+        return O::operate_ahead(operator, operands, may_enter);
     }
     match value.as_enterable() {
         Some(part) if may_enter => enter_ahead(part),

@@ -2,7 +2,8 @@
 //!
 //! Why so:
 //! - Who does the operators is a trait (`Operate`), so values, frames and tokens are proved beside
-//!   the operators. It costs a type parameter.
+//!   the operators. It costs a type parameter, and no value: what an operator needs is given with
+//!   its call.
 //! - `do_quickly` has a jump for an element and `treat_ahead` one for what a name stands for. One
 //!   jump for both costs each element of a bound procedure more.
 //! - `do_quickly` must not grow past the size at which the kit drops `inline(always)`. What the

@@ -1,4 +1,4 @@
-//! Who does the operators of a step.
+//! Who does the operators of a step, by a type alone: it has no value.
 
 ghost use Rattle.std.specs.Prelude.{◌≡◌, ◌<◌, [], IsTrue};
 ghost use Rattle.ps_language.specs.Effect.{Around, Scene};
@@ -18,7 +18,7 @@ use ps_ops_operands::failure::NotMade;
 use ps_ops_state::lent::{Attempt, Context, Runtime};
 use ps_step_outcome::turned::Turned;
 
-/// Does the operators of a step.
+/// Does the operators of a step. A type is enough: what they work on is given with each call.
 pub trait Operate {
     /// What an operator asks for that the language doesn't say, in a scene and what surrounds it.
     ghost asks: { names.Operator → Around → Scene → Asked };
@@ -26,7 +26,7 @@ pub trait Operate {
     /// An operator on operands alone acts, where it raises no error, and so does one that enters a
     /// procedure, up to the frame of that, where one may be entered. Else nothing has changed, as
     /// by every other operator.
-    fn operate_ahead(&self, operator: Operator, operands: &mut Operands, may_enter: bool) -> Ahead
+    fn operate_ahead(operator: Operator, operands: &mut Operands, may_enter: bool) -> Ahead
         ensures comes { EntersAlone [] (operated_asks asks operator) (operated_turn operator) result
             operands.old operands.new }
         ensures enters { (body : ThePart) → result ≡ Ahead.Enters body → IsTrue may_enter };
@@ -35,7 +35,6 @@ pub trait Operate {
     /// as it would under any more frames. Else nothing was done. Every other operator may be left,
     /// and nothing has changed. The records go into the log of a slot.
     fn operate_under<M: Memory>(
-        &self,
         operator: Operator,
         context: &mut Context,
         runtime: &mut Runtime<M>,
@@ -52,7 +51,6 @@ pub trait Operate {
     ///
     /// Not made, with nothing changed: as the operator, or the note of its error.
     fn operate<M: Memory>(
-        &self,
         operator: Operator,
         context: &mut Context,
         runtime: &mut Runtime<M>,

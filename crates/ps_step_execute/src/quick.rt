@@ -51,7 +51,6 @@ impl Quick {
 #[inline(always)]
 pub fn do_quickly<O: Operate, M: Memory>(
     word: Word,
-    operators: &O,
     dictionaries: &Dictionaries,
     operands: &mut Operands,
     memory: &mut M,
@@ -71,7 +70,7 @@ pub fn do_quickly<O: Operate, M: Memory>(
         return Quick::or(came, Quick::Treats(word));
     }
     if let Some(operator) = word.executable_operator() {
-        let came = operators.operate_ahead(operator, operands, may_enter);
+        let came = O::operate_ahead(operator, operands, may_enter);
         return Quick::or(came, Quick::Treats(word));
     }
     // Asked for before a name: what a look-up keeps would else be kept beside a procedure.
@@ -84,7 +83,7 @@ pub fn do_quickly<O: Operate, M: Memory>(
             let Ok(Some(found)) = look_up(memory, dictionaries, Some(word)) else {
                 return Quick::Left;
             };
-            let came = treat_ahead(found.1, operators, operands, may_enter);
+            let came = treat_ahead::<O>(found.1, operands, may_enter);
             Quick::or(came, Quick::Treats(found.1))
         }
         _ => Quick::Treats(word),

@@ -27,7 +27,6 @@ pub enum Under {
 #[inline(always)]
 pub fn treat_under<O: Operate, M: Memory>(
     value: Word,
-    operators: &O,
     context: &mut Context,
     runtime: &mut Runtime<M>,
     slot: Slot,
@@ -41,7 +40,7 @@ pub fn treat_under<O: Operate, M: Memory>(
         (lent_of M.heap M.grants context.new runtime.new) }
 {
     match value.executable_operator() {
-        Some(operator) => operators.operate_under(operator, context, runtime, slot),
+        Some(operator) => O::operate_under(operator, context, runtime, slot),
         None => Under::Left,
     }
 }

@@ -31,7 +31,6 @@ fn execute_content<O: Operate, M: Memory>(
     content: Content,
     word: Word,
     command: Word,
-    operators: &O,
     context: &mut Context,
     runtime: &mut Runtime<M>,
     attempt: Attempt,
@@ -49,7 +48,7 @@ fn execute_content<O: Operate, M: Memory>(
         Content::Name(_) => {
             push_frame(Frame::Pending { word }, command, context, runtime, attempt)
         }
-        Content::Operator(operator) => operators.operate(operator, context, runtime, attempt),
+        Content::Operator(operator) => O::operate(operator, context, runtime, attempt),
         Content::Null | Content::Body(_) => Ok(Turned::Goes),
         Content::Array(part) => enter(part, command, context, runtime, attempt),
         Content::Text(part) => scan_string(part, command, context, runtime, attempt),
@@ -72,7 +71,6 @@ fn execute_content<O: Operate, M: Memory>(
 pub fn treat<O: Operate, M: Memory>(
     word: Word,
     command: Word,
-    operators: &O,
     context: &mut Context,
     runtime: &mut Runtime<M>,
     attempt: Attempt,
@@ -89,7 +87,7 @@ pub fn treat<O: Operate, M: Memory>(
         return push_value(word, command, context, runtime, attempt);
     }
     let content = word.content();
-    execute_content(content, word, command, operators, context, runtime, attempt)
+    execute_content::<O, M>(content, word, command, context, runtime, attempt)
 }
 
 /// An executable name is looked up, and its value is treated.
@@ -102,7 +100,6 @@ pub fn treat<O: Operate, M: Memory>(
 pub fn execute_name<O: Operate, M: Memory>(
     word: Word,
     command: Word,
-    operators: &O,
     context: &mut Context,
     runtime: &mut Runtime<M>,
     attempt: Attempt,
@@ -118,7 +115,7 @@ pub fn execute_name<O: Operate, M: Memory>(
         (lent_of M.heap M.grants context.new runtime.new) }
 {
     match look_up(&mut runtime.memory, &context.dictionaries, Some(word)) {
-        Ok(Some(found)) => treat(found.1, command, operators, context, runtime, attempt),
+        Ok(Some(found)) => treat::<O, M>(found.1, command, context, runtime, attempt),
         Ok(None) => raise(ErrorName::Undefined, command, context, runtime, attempt),
         Err(_) => raise(ErrorName::InvalidAccess, command, context, runtime, attempt),
     }
@@ -133,7 +130,6 @@ pub fn execute_name<O: Operate, M: Memory>(
 pub fn execute<O: Operate, M: Memory>(
     word: Word,
     command: Word,
-    operators: &O,
     context: &mut Context,
     runtime: &mut Runtime<M>,
     attempt: Attempt,
@@ -150,8 +146,8 @@ pub fn execute<O: Operate, M: Memory>(
         return push_value(word, command, context, runtime, attempt);
     }
     match word.content() {
-        Content::Name(_) => execute_name(word, command, operators, context, runtime, attempt),
-        content => execute_content(content, word, command, operators, context, runtime, attempt),
+        Content::Name(_) => execute_name::<O, M>(word, command, context, runtime, attempt),
+        content => execute_content::<O, M>(content, word, command, context, runtime, attempt),
     }
 }
 
@@ -162,7 +158,6 @@ pub fn execute<O: Operate, M: Memory>(
 pub fn do_element<O: Operate, M: Memory>(
     word: Word,
     command: Word,
-    operators: &O,
     context: &mut Context,
     runtime: &mut Runtime<M>,
     attempt: Attempt,
@@ -179,8 +174,8 @@ pub fn do_element<O: Operate, M: Memory>(
         return push_value(word, command, context, runtime, attempt);
     }
     match word.content() {
-        Content::Name(_) => execute_name(word, command, operators, context, runtime, attempt),
+        Content::Name(_) => execute_name::<O, M>(word, command, context, runtime, attempt),
         Content::Array(_) => push_value(word, command, context, runtime, attempt),
-        content => execute_content(content, word, command, operators, context, runtime, attempt),
+        content => execute_content::<O, M>(content, word, command, context, runtime, attempt),
     }
 }

@@ -11,7 +11,7 @@ use crate::frames::drop_top;
 use crate::places::operands_at;
 use ps_mem::Memory;
 use ps_ops_control::ahead::{Ahead, for_ahead, forall_ahead, loop_ahead, repeat_ahead};
-use ps_ops_control::frames::Frame;
+use ps_ops_control::frames::{ForLoop, ForallLoop, Frame};
 use ps_ops_state::lent::{Context, Shared};
 
 /// A turn of the loop that is the topmost frame, up to the frame of the procedure that it enters, or
@@ -47,13 +47,23 @@ pub fn turn_ahead<M: Memory>(
             increment,
             limit,
             body,
-        } => for_ahead(operands, frames, control, increment, limit, body),
+        } => {
+            let state = ForLoop {
+                control,
+                increment,
+                limit,
+                body,
+            };
+            for_ahead(operands, frames, state)
+        }
         Frame::Forall { over, at, body } => match operands_at(over, at, memory) {
             None => {
                 drop_top(frames);
                 Ahead::Goes
             }
-            Some(pushed) => forall_ahead(operands, frames, over, at, body, pushed),
+            Some(pushed) => {
+                forall_ahead(operands, frames, ForallLoop { over, at, body }, pushed)
+            }
         },
         _ => Ahead::Left,
     }

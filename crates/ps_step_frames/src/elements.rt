@@ -21,7 +21,8 @@ use ps_step_outcome::turned::Turned;
 use ps_word::values::Part;
 use ps_word::words::Word;
 
-/// An element of a procedure, and the value as which it is treated.
+/// An element of a procedure, or a token of a text, as a word, and the value as which it is
+/// treated.
 #[derive(Clone, Copy, Debug, PartialEq, Eq)]
 pub struct Element {
     pub word: Word,
@@ -35,7 +36,6 @@ pub struct Element {
 #[inline(never)]
 pub fn procedure_turn<O: Operate, M: Memory>(
     rest: Part,
-    operators: &O,
     context: &mut Context,
     runtime: &mut Runtime<M>,
     attempt: Attempt,
@@ -48,7 +48,7 @@ pub fn procedure_turn<O: Operate, M: Memory>(
 {
     let word = element(&mut runtime.memory, rest, 0);
     advance(&mut context.frames, rest, 1);
-    match do_element(word, word, operators, context, runtime, attempt) {
+    match do_element::<O, M>(word, word, context, runtime, attempt) {
         Ok(turned) => Ok(turned),
         Err(reason) => {
             put_back(&mut context.frames, rest);
@@ -62,7 +62,6 @@ pub fn procedure_turn<O: Operate, M: Memory>(
 fn treat_apart<O: Operate, M: Memory>(
     value: Word,
     command: Word,
-    operators: &O,
     context: &mut Context,
     runtime: &mut Runtime<M>,
     attempt: Attempt,
@@ -75,7 +74,7 @@ fn treat_apart<O: Operate, M: Memory>(
         (lent_of M.heap M.grants context.old runtime.old)
         (lent_of M.heap M.grants context.new runtime.new) }
 {
-    treat(value, command, operators, context, runtime, attempt)
+    treat::<O, M>(value, command, context, runtime, attempt)
 }
 
 /// The first element of a procedure above the frames is done, as its value is treated; what is left
@@ -87,7 +86,6 @@ fn treat_apart<O: Operate, M: Memory>(
 fn element_turn<O: Operate, M: Memory>(
     rest: Part,
     element: Element,
-    operators: &O,
     context: &mut Context,
     runtime: &mut Runtime<M>,
     attempt: Attempt,
@@ -103,7 +101,7 @@ fn element_turn<O: Operate, M: Memory>(
 {
     let Element { word, value } = element;
     push_rest(&mut context.frames, rest);
-    match treat_apart(value, word, operators, context, runtime, attempt) {
+    match treat_apart::<O, M>(value, word, context, runtime, attempt) {
         Ok(turned) => Ok(turned),
         Err(reason) => {
             put_back(&mut context.frames, rest);
@@ -119,7 +117,6 @@ fn element_turn<O: Operate, M: Memory>(
 pub fn element_under<O: Operate, M: Memory>(
     rest: Part,
     first: Option<Element>,
-    operators: &O,
     context: &mut Context,
     runtime: &mut Runtime<M>,
     slot: Slot,
@@ -134,7 +131,7 @@ pub fn element_under<O: Operate, M: Memory>(
         (lent_of M.heap M.grants context.new runtime.new) }
 {
     match first {
-        Some(element) => treat_under(element.value, operators, context, runtime, slot),
+        Some(element) => treat_under::<O, M>(element.value, context, runtime, slot),
         None => Under::Left,
     }
 }
@@ -147,7 +144,6 @@ pub fn element_under<O: Operate, M: Memory>(
 pub fn pushed_turn<O: Operate, M: Memory>(
     rest: Part,
     first: Option<Element>,
-    operators: &O,
     context: &mut Context,
     runtime: &mut Runtime<M>,
     attempt: Attempt,
@@ -162,10 +158,10 @@ pub fn pushed_turn<O: Operate, M: Memory>(
         (lent_of M.heap M.grants context.new runtime.new) }
 {
     match first {
-        Some(element) => element_turn(rest, element, operators, context, runtime, attempt),
+        Some(element) => element_turn::<O, M>(rest, element, context, runtime, attempt),
         None => {
             push_frame(&mut context.frames, Frame::Procedure { rest });
-            procedure_turn(rest, operators, context, runtime, attempt)
+            procedure_turn::<O, M>(rest, context, runtime, attempt)
         }
     }
 }
@@ -177,7 +173,6 @@ pub fn pushed_turn<O: Operate, M: Memory>(
 #[inline(never)]
 pub fn pending_turn<O: Operate, M: Memory>(
     word: Word,
-    operators: &O,
     context: &mut Context,
     runtime: &mut Runtime<M>,
     attempt: Attempt,
@@ -189,7 +184,7 @@ pub fn pending_turn<O: Operate, M: Memory>(
         (lent_of M.heap M.grants context.new runtime.new) }
 {
     drop_top(&mut context.frames);
-    match execute(word, word, operators, context, runtime, attempt) {
+    match execute::<O, M>(word, word, context, runtime, attempt) {
         Ok(turned) => Ok(turned),
         Err(reason) => {
             push_frame(&mut context.frames, Frame::Pending { word });

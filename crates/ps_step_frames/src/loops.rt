@@ -11,7 +11,7 @@ use crate::places::operands_at;
 use ps_language::errors::ErrorName;
 use ps_language::operators::Operator;
 use ps_mem::Memory;
-use ps_ops_control::frames::{Frame, push_frame};
+use ps_ops_control::frames::{ForLoop, ForallLoop, Frame, push_frame};
 use ps_ops_control::turns::{for_turn, forall_turn, loop_turn, repeat_turn};
 use ps_ops_operands::failure::NotMade;
 use ps_ops_operands::plain;
@@ -19,7 +19,6 @@ use ps_ops_state::lent::{Attempt, Context, Runtime};
 use ps_step_outcome::raises::raise_by;
 use ps_step_outcome::turned::Turned;
 use ps_word::values::Part;
-use ps_word::words::Word;
 
 /// What a turn over operands and frames came to: the context goes on, or the error is raised with
 /// the operator as the command.
@@ -117,28 +116,19 @@ pub fn repeat_step<M: Memory>(
 ///
 /// Not made, with nothing changed: as the note of an error.
 pub fn for_step<M: Memory>(
-    control: i64,
-    increment: i32,
-    limit: i32,
-    body: Part,
+    state: ForLoop,
     context: &mut Context,
     runtime: &mut Runtime<M>,
     attempt: Attempt,
 ) -> Result<Turned, NotMade>
     requires good { IsGood (lent_of M.heap M.grants context.old runtime.old) }
-    requires top { first_of context.old.frames ≡ Some (Frame.For control increment limit body) }
+    requires top { first_of context.old.frames ≡ Some (Frame.For state.control state.increment
+        state.limit state.body) }
     ensures { Turns nothing_more running_turn attempt result
         (lent_of M.heap M.grants context.old runtime.old)
         (lent_of M.heap M.grants context.new runtime.new) }
 {
-    let outcome = for_turn(
-        &mut context.operands,
-        &mut context.frames,
-        control,
-        increment,
-        limit,
-        body,
-    );
+    let outcome = for_turn(&mut context.operands, &mut context.frames, state);
     settle(outcome, Operator::For, context, runtime, attempt)
 }
 
@@ -147,20 +137,19 @@ pub fn for_step<M: Memory>(
 ///
 /// Not made, with nothing changed: as the note of an error.
 pub fn forall_step<M: Memory>(
-    over: Word,
-    at: usize,
-    body: Part,
+    state: ForallLoop,
     context: &mut Context,
     runtime: &mut Runtime<M>,
     attempt: Attempt,
 ) -> Result<Turned, NotMade>
     requires good { IsGood (lent_of M.heap M.grants context.old runtime.old) }
-    requires top { first_of context.old.frames ≡ Some (Frame.Forall over at body) }
+    requires top { first_of context.old.frames ≡ Some (Frame.Forall state.over state.at
+        state.body) }
     ensures { Turns nothing_more running_turn attempt result
         (lent_of M.heap M.grants context.old runtime.old)
         (lent_of M.heap M.grants context.new runtime.new) }
 {
-    match operands_at(over, at, &mut runtime.memory) {
+    match operands_at(state.over, state.at, &mut runtime.memory) {
         None => {
             drop_top(&mut context.frames);
             Ok(Turned::Goes)
@@ -169,9 +158,7 @@ pub fn forall_step<M: Memory>(
             let outcome = forall_turn(
                 &mut context.operands,
                 &mut context.frames,
-                over,
-                at,
-                body,
+                state,
                 Some(pushed),
             );
             settle(outcome, Operator::Forall, context, runtime, attempt)

@@ -11,7 +11,7 @@ use crate::elements::{pending_turn, procedure_turn};
 use crate::loops::{for_step, forall_step, loop_step, repeat_step, stopped_step};
 use crate::monitors::monitor_turn;
 use ps_mem::Memory;
-use ps_ops_control::frames::Frame;
+use ps_ops_control::frames::{ForLoop, ForallLoop, Frame};
 use ps_ops_operands::failure::NotMade;
 use ps_ops_state::lent::{Attempt, Context, Runtime};
 use ps_step_execute::operates::Operate;
@@ -27,7 +27,6 @@ use ps_step_outcome::turned::Turned;
 #[inline(always)]
 pub fn frame_turn<O: Operate, M: Memory>(
     top: Frame,
-    operators: &O,
     context: &mut Context,
     runtime: &mut Runtime<M>,
     attempt: Attempt,
@@ -40,8 +39,8 @@ pub fn frame_turn<O: Operate, M: Memory>(
         (lent_of M.heap M.grants context.new runtime.new) }
 {
     match top {
-        Frame::Procedure { rest } => { procedure_turn(rest, operators, context, runtime, attempt) }
-        Frame::Pending { word } => pending_turn(word, operators, context, runtime, attempt),
+        Frame::Procedure { rest } => { procedure_turn::<O, M>(rest, context, runtime, attempt) }
+        Frame::Pending { word } => pending_turn::<O, M>(word, context, runtime, attempt),
         Frame::Repeat { count, body } => repeat_step(count, body, context, runtime, attempt),
         Frame::Loop { body } => loop_step(body, context, runtime, attempt),
         Frame::For {
@@ -49,9 +48,17 @@ pub fn frame_turn<O: Operate, M: Memory>(
             increment,
             limit,
             body,
-        } => for_step(control, increment, limit, body, context, runtime, attempt),
+        } => {
+            let state = ForLoop {
+                control,
+                increment,
+                limit,
+                body,
+            };
+            for_step(state, context, runtime, attempt)
+        }
         Frame::Forall { over, at, body } => {
-            forall_step(over, at, body, context, runtime, attempt)
+            forall_step(ForallLoop { over, at, body }, context, runtime, attempt)
         }
         Frame::Stopped => stopped_step(context, runtime, attempt),
         Frame::Bind { over, at, depth } => { bind_turn(over, at, depth, context, runtime, attempt) }

@@ -1,6 +1,6 @@
 -- What a step reaches, and what settles.
 use Rattle.std.proofs.Common.{◌≡◌, true, false, refl, ap, ◌∙◌}
-use Rattle.ps_language.specs.declared.operators.Operator.{Operator}
+use Rattle.ps_step_outcome.specs.declared.world_operators.WorldOperator.{WorldOperator}
 use Rattle.ps_language.specs.Machines.{with_status, told_by, may_end, is_empty, settled, reaches}
 use Rattle.ps_language.specs.World.{running, finished, Machine}
 use Rattle.ps_language.proofs.LeftTurns.{reaches≢leaves}
@@ -17,7 +17,7 @@ IsMade (Calls operator) = ⊥
 IsMade turned = Unit {0}
 
 pub made_unless : (turned : Turned)
-    → ((operator : Operator) → turned ≡ Calls operator → ⊥) → IsMade turned
+    → ((operator : WorldOperator) → turned ≡ Calls operator → ⊥) → IsMade turned
 made_unless Goes other = tt
 made_unless (Calls operator) other = other operator refl
 made_unless (Breaks cause) other = tt

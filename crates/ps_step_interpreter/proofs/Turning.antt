@@ -2,7 +2,7 @@
 use Rattle.std.proofs.Common.{◌≡◌, inl, inr, ℕ, ◌≤◌, Bool, true, List, length, refl, sym, ap, subst, ◌∙◌, Ok, Err}
 use Rattle.std.proofs.Common.{Option, Some, None, arith}
 use Rattle.std.specs.Prelude.{Result}
-use Rattle.ps_language.specs.declared.operators.Operator.{Operator}
+use Rattle.ps_step_outcome.specs.declared.world_operators.WorldOperator.{WorldOperator}
 use Rattle.ps_language.specs.Effect.{Around, Scene}
 use Rattle.ps_language.specs.Machines.{turn_as, may_end, leaves_to_world, after_turn, own_step}
 use Rattle.ps_language.specs.StepValues.{Turn, goes, tries, breaks, errs, asks as leaves_to}
@@ -223,7 +223,7 @@ module _ (asks : Status → Around → Scene → Asked) (unwinding : Option Caus
 
   -- ---- an operator is left to the world
 
-  module _ (operator : Operator) (mid : Lent) (steady : IsSteady here)
+  module _ (operator : WorldOperator) (mid : Lent) (steady : IsSteady here)
       (turns : Turns (asks_in asks unwinding) (own_turn unwinding) attempt (Ok (Calls operator)) old
       mid) where
     module _ (machine : Machine) (lent : IsLentBy old (status_in unwinding) lines machine) where

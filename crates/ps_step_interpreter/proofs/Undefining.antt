@@ -1,7 +1,7 @@
 -- The error of an operator that is left to the world.
 use Rattle.std.proofs.Common.{◌≡◌, ℕ, Bool, arith, refl, sym, ap, subst, ◌∙◌, Ok, Err}
 use Rattle.ps_language.specs.declared.errors.ErrorName.TheVariants.{Undefined}
-use Rattle.ps_language.specs.declared.operators.Operator.{Operator}
+use Rattle.ps_step_outcome.specs.declared.world_operators.WorldOperator.{WorldOperator}
 use Rattle.ps_language.specs.Effect.{Around, Scene}
 use Rattle.ps_language.specs.Machines as machines
 use Rattle.ps_language.specs.Machines.{with_scene, failed, settled, after_turn, own_step}
@@ -15,6 +15,7 @@ use Rattle.ps_ops_state.specs.Acts.{Asked, Needs, IsReason, no_rooms}
 use Rattle.ps_ops_state.specs.Lent.{Lent, Rooms, scene_of}
 use Rattle.ps_ops_state.proofs.Meeting.{AreNeedsWithin, reason_more}
 use Rattle.ps_step_outcome.specs.declared.turned.Turned.{Turned}
+use Rattle.ps_step_outcome.specs.WorldOperators.{operator_of}
 use Rattle.ps_step_outcome.specs.Turns.{Turns, calling_of, error_needs, nothing_more, operator_error, lines_after}
 use Rattle.ps_step_interpreter.specs.declared.courses.AloneCourse.TheVariants.{Calling}
 use Rattle.ps_step_interpreter.specs.Alone.{alone_reached, alone_step}
@@ -26,7 +27,7 @@ use Rattle.ps_step_interpreter.proofs.Reached.{made_by}
 use Rattle.ps_step_interpreter.proofs.Made.{next, came, made_at, steady_after}
 use Rattle.ps_step_interpreter.proofs.Unmade.{at_same, held_up}
 
-module _ (asks : Status → Around → Scene → Asked) (l : Lent) (operator : Operator) (lines : ℕ) where
+module _ (asks : Status → Around → Scene → Asked) (l : Lent) (operator : WorldOperator) (lines : ℕ) where
   module _ (refused : Bool) (machine : Machine) (at : IsCalling l operator lines machine) where
     is_left : IsLeft machine (machine_turn l.program machine) (calling_of operator) at.left
     unfolding own_step
@@ -44,7 +45,7 @@ module _ (asks : Status → Around → Scene → Asked) (l : Lent) (operator : O
     abbrev listed_needs : Rooms → Needs
     listed_needs rooms =
         error_needs rooms (birth_at l.heap l.error_dictionary) (scene_of l at.left.store)
-        Undefined (command_of operator) (scene_of l at.left.store)
+        Undefined (command_of (operator_of operator)) (scene_of l at.left.store)
 
     abbrev pub asked_here : Asked
     asked_here =
@@ -55,7 +56,7 @@ module _ (asks : Status → Around → Scene → Asked) (l : Lent) (operator : O
         ap (alone_turn_needs refused asked_here machine.context.error_dictionary
         (machines.scene_of machine)) is_left.asks
         ∙ (λ i. error_needs asked_here.scratch (birth_same i) (kept_same i) Undefined
-        (command_of operator) (kept_same i))
+        (command_of (operator_of operator)) (kept_same i))
 
     needs_more : AreNeedsWithin (listed_needs no_rooms) (alone_needs asks l.program refused machine)
     needs_more = subst (AreNeedsWithin (listed_needs no_rooms)) (sym needs_same) (record {
@@ -71,17 +72,17 @@ module _ (asks : Status → Around → Scene → Asked) (l : Lent) (operator : O
     left_again = λ i. with_scene (at.lent.scene i) (sym at.lent.is_so i) at.left
 
     next_same : alone_reached (after_turn refused at.left
-        (errs Undefined (command_of operator) (scene_of l at.left.store)))
+        (errs Undefined (command_of (operator_of operator)) (scene_of l at.left.store)))
         ≡ alone_step l.program refused machine
     unfolding alone_step
     next_same =
-        ap (λ (m : Machine). settled (failed Undefined (command_of operator) m)) left_again
+        ap (λ (m : Machine). settled (failed Undefined (command_of (operator_of operator)) m)) left_again
         ∙ ap alone_reached (sym (at.leaves refused))
 
   module _ (new : Lent) (attempt : Attempt) (steady : IsSteady (held l (Calling operator) lines)) where
     -- it is noted
     undefined_made : (turned : Turned)
-        → Turns nothing_more (operator_error operator Undefined) attempt (Ok turned) l new
+        → Turns nothing_more (operator_error (operator_of operator) Undefined) attempt (Ok turned) l new
         → (machine : Machine) → (at : IsCalling l operator lines machine)
         → StepsFrom (alone_needs asks l.program attempt.refused machine)
         (alone_step l.program attempt.refused machine) attempt (Ok (tt {0})) machine
@@ -89,7 +90,7 @@ module _ (asks : Status → Around → Scene → Asked) (l : Lent) (operator : O
         (held new (course_after turned new.frames) (lines_after turned lines))
     undefined_made turned turns machine at =
         let by = turns.meets at.left.store at.lent.shown in
-        let turn : Turn = operator_error operator Undefined l at.left.store in
+        let turn : Turn = operator_error (operator_of operator) Undefined l at.left.store in
         let made = made_by turned _
         (next attempt.refused turn turned l new running lines at.left at.lent steady.good turns.keeps
         turns.stays by.did)
@@ -107,7 +108,7 @@ module _ (asks : Status → Around → Scene → Asked) (l : Lent) (operator : O
         }
 
     pub steps_undefined : (turned : Turned)
-        → Turns nothing_more (operator_error operator Undefined) attempt (Ok turned) l new
+        → Turns nothing_more (operator_error (operator_of operator) Undefined) attempt (Ok turned) l new
         → Steps asks attempt (Ok (tt {0})) (held l (Calling operator) lines)
         (held new (course_after turned new.frames) (lines_after turned lines))
     steps_undefined turned turns = record {
@@ -119,7 +120,7 @@ module _ (asks : Status → Around → Scene → Asked) (l : Lent) (operator : O
 
     -- or waits
     undefined_unmade : (reason : Reason)
-        → Turns nothing_more (operator_error operator Undefined) attempt (Err reason) l new
+        → Turns nothing_more (operator_error (operator_of operator) Undefined) attempt (Err reason) l new
         → (machine : Machine) → (at : IsCalling l operator lines machine)
         → StepsFrom (alone_needs asks l.program attempt.refused machine)
         (alone_step l.program attempt.refused machine) attempt (Err reason) machine
@@ -140,7 +141,7 @@ module _ (asks : Status → Around → Scene → Asked) (l : Lent) (operator : O
         }
 
     pub steps_waiting : (reason : Reason)
-        → Turns nothing_more (operator_error operator Undefined) attempt (Err reason) l new
+        → Turns nothing_more (operator_error (operator_of operator) Undefined) attempt (Err reason) l new
         → Steps asks attempt (Err reason) (held l (Calling operator) lines)
         (held new (Calling operator) lines)
     steps_waiting reason turns = record {

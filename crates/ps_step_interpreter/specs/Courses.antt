@@ -2,7 +2,7 @@
 use Rattle.std.specs.Prelude.{◌≡◌, ℕ, Bool, true, false, Option, Some, None, List, [], ◌∷◌}
 use Rattle.ps_language.specs.Machines as machines
 use Rattle.ps_language.specs.Machines.{may_end, leaves_to_world, own_step}
-use Rattle.ps_language.specs.declared.operators.Operator.{Operator}
+use Rattle.ps_step_outcome.specs.declared.world_operators.WorldOperator.{WorldOperator}
 use Rattle.ps_language.specs.World.{Status, running, unwinding, finished, Machine}
 use Rattle.ps_mem.specs.Heap.{birth_at}
 use Rattle.ps_ops_control.specs.declared.frames.Frame.{Frame}
@@ -62,7 +62,8 @@ pub record IsLentBy (l : Lent) (status : Status) (lines : ℕ) (machine : Machin
 
 -- the step of a machine leaves this operator to the world, refused or not, and what is lent is that
 -- of the machine that it leaves
-pub record IsCalling (l : Lent) (operator : Operator) (lines : ℕ) (machine : Machine) : Type 0 where
+pub record IsCalling (l : Lent) (operator : WorldOperator) (lines : ℕ) (machine : Machine)
+    : Type 0 where
   pub left : Machine
   pub lent : IsLentBy l running lines left
   pub goes_on : may_end machine.context.status ≡ true

@@ -1,7 +1,7 @@
 //! How far a context is.
 
-use ps_language::operators::Operator;
 use ps_ops_control::frames::Cause;
+use ps_step_outcome::world_operators::WorldOperator;
 
 /// How far a context is.
 #[derive(Clone, Copy, Debug, PartialEq, Eq)]
@@ -11,6 +11,6 @@ pub enum AloneCourse {
     Unwinding(Cause),
     /// The element of an operator that is left to the world is taken, and its error waits to be
     /// noted.
-    Calling(Operator),
+    Calling(WorldOperator),
     Finished,
 }

@@ -19,16 +19,17 @@ use crate::courses::AloneCourse;
 use crate::interprets::Interpret;
 use ps_ctx_start::start::{Setup, start};
 use ps_language::errors::ErrorName;
-use ps_language::operators::Operator;
 use ps_mem::{Memory, Slot};
 use ps_ops_control::frames::Cause;
 use ps_ops_operands::failure::NotMade;
 use ps_ops_state::lent::{Attempt, Context, Runtime, Shared};
 use ps_step_outcome::raises::raise_by;
 use ps_step_outcome::turned::Turned;
+use ps_step_outcome::world_operators::WorldOperator;
 use std::alloc::Global;
 
-/// A context and how far it is; what contexts share, and the memory with its objects, are given to each step.
+/// A context and how far it is; what contexts share, and the memory with its objects, are given to
+/// each step.
 #[derive(Drop)]
 pub struct Interpreter {
     pub context: Context,
@@ -142,7 +143,7 @@ impl Interpreter {
     #[inline(never)]
     fn undefine<M: Memory>(
         &mut self,
-        operator: Operator,
+        operator: WorldOperator,
         runtime: &mut Runtime<M>,
         attempt: Attempt,
     ) -> Result<(), NotMade>
@@ -157,7 +158,7 @@ impl Interpreter {
             self.new.course self.new.error_lines) }
     {
         match raise_by(
-            operator,
+            operator.operator(),
             ErrorName::Undefined,
             &mut self.context,
             runtime,

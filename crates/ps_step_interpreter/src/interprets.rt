@@ -13,17 +13,11 @@ use ps_mem::{Memory, Slot};
 use ps_ops_control::frames::Cause;
 use ps_ops_operands::failure::NotMade;
 use ps_ops_state::lent::{Attempt, Context, Runtime};
+use ps_step_outcome::batches::Batch;
 use ps_step_outcome::turned::Turned;
 
-/// Steps that were made, and what the turn behind them came to.
-#[derive(Clone, Copy, Debug, PartialEq, Eq)]
-pub struct Run {
-    /// How many were made, each of which goes on.
-    pub made: u32,
-    /// What the next one came to; none where as many were made as were asked for, or no frame is
-    /// left.
-    pub next: Option<Result<Turned, NotMade>>,
-}
+/// Steps of one context, and what the turn behind them came to.
+pub type Run = Batch<Result<Turned, NotMade>>;
 
 /// Makes the steps of a context.
 pub trait Interpret {

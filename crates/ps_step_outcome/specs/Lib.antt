@@ -1,3 +1,4 @@
 pub mod Ends
 pub mod Entries
 pub mod Turns
+pub mod WorldOperators

@@ -35,6 +35,8 @@ use Rattle.ps_ops_state.specs.declared.lent.Attempt.{Attempt}
 use Rattle.ps_ops_state.specs.Lent.{Lent, Rooms, scene_of, IsShown, IsGood}
 use Rattle.ps_ops_state.specs.Acts.{Asked, Needs, nothing_needed, no_rooms, names_formed, needs_between}
 use Rattle.ps_ops_state.specs.Acts.{IsReason, Lasts, IsSame, Stays}
+use Rattle.ps_step_outcome.specs.declared.world_operators.WorldOperator.{WorldOperator}
+use Rattle.ps_step_outcome.specs.WorldOperators.{operator_of}
 use Rattle.ps_step_outcome.specs.declared.turned.Turned.{Turned}
 use Rattle.ps_step_outcome.specs.declared.turned.Turned.TheVariants.{Goes, Calls, Breaks, Ends}
 
@@ -154,10 +156,10 @@ deed_in row = None
 abbrev pub is_for_world : Operator → Bool
 is_for_world operator = is_some (deed_in (row_of scan operator))
 
-abbrev pub calling_of : Operator → Calling
-calling_of operator = record {
-  operator = operator;
-  deed = unwrap_or (deed_in (row_of scan operator)) λ operands call. fails Undefined;
+abbrev pub calling_of : WorldOperator → Calling
+calling_of left = record {
+  operator = operator_of left;
+  deed = unwrap_or (deed_in (row_of scan (operator_of left))) λ operands call. fails Undefined;
 }
 
 -- what the step comes to: the machine is settled, or an operator is left to the world

@@ -13,8 +13,10 @@
 //!   more.
 #![tactic(auto)]
 
+pub mod batches;
 pub mod breaks;
 pub mod ends;
 pub mod notes;
 pub mod raises;
 pub mod turned;
+pub mod world_operators;

@@ -1,6 +1,6 @@
 //! What a step that was made came to.
 
-use ps_language::operators::Operator;
+use crate::world_operators::WorldOperator;
 use ps_ops_control::frames::Cause;
 
 /// What a step that was made came to.
@@ -10,7 +10,7 @@ pub enum Turned {
     Goes,
     /// An operator on contexts, locks or the shown memory is left to the world; its element is
     /// taken, and nothing else has changed.
-    Calls(Operator),
+    Calls(WorldOperator),
     /// An unwinding begins or goes on; a frame is left.
     Breaks(Cause),
     /// The context ends by an unwinding.

@@ -67,7 +67,6 @@ pub(crate) fn name_word(id: NameId, executable: bool) -> Word
 #[inline(never)]
 fn do_value<O: Operate, M: Memory>(
     word: Word,
-    operators: &O,
     context: &mut Context,
     runtime: &mut Runtime<M>,
     attempt: Attempt,
@@ -81,7 +80,7 @@ fn do_value<O: Operate, M: Memory>(
         (lent_of M.heap M.grants context.new runtime.new) }
 {
     match look_up(&mut runtime.memory, &context.dictionaries, Some(word)) {
-        Ok(Some(found)) => do_element(found.1, word, operators, context, runtime, attempt),
+        Ok(Some(found)) => do_element::<O, M>(found.1, word, context, runtime, attempt),
         Ok(None) => raise(ErrorName::Undefined, word, context, runtime, attempt),
         Err(_) => raise(ErrorName::InvalidAccess, word, context, runtime, attempt),
     }
@@ -92,7 +91,6 @@ fn do_value<O: Operate, M: Memory>(
 fn do_met<O: Operate, M: Memory>(
     kind: NameKind,
     word: Word,
-    operators: &O,
     context: &mut Context,
     runtime: &mut Runtime<M>,
     attempt: Attempt,
@@ -107,8 +105,8 @@ fn do_met<O: Operate, M: Memory>(
 {
     match kind {
         NameKind::Literal => push_value(word, word, context, runtime, attempt),
-        NameKind::Executable => execute_name(word, word, operators, context, runtime, attempt),
-        NameKind::Immediate => do_value(word, operators, context, runtime, attempt),
+        NameKind::Executable => execute_name::<O, M>(word, word, context, runtime, attempt),
+        NameKind::Immediate => do_value::<O, M>(word, context, runtime, attempt),
     }
 }
 
@@ -125,7 +123,6 @@ fn do_met<O: Operate, M: Memory>(
 pub fn do_name<O: Operate, M: Memory>(
     kind: NameKind,
     text: &[u8],
-    operators: &O,
     context: &mut Context,
     runtime: &mut Runtime<M>,
     attempt: Attempt,
@@ -141,7 +138,7 @@ pub fn do_name<O: Operate, M: Memory>(
     match runtime.shared.names.intern(text) {
         Ok(id) => {
             let word = name_word(id, kind.is_executed());
-            match do_met(kind, word, operators, context, runtime, attempt) {
+            match do_met::<O, M>(kind, word, context, runtime, attempt) {
                 Ok(turned) => Ok(turned),
                 Err(reason) => {
                     runtime.shared.names.truncate(count);

@@ -26,7 +26,6 @@ use ps_step_outcome::turned::Turned;
 pub fn do_token<O: Operate, M: Memory>(
     kind: &TokenKind,
     text: &[u8],
-    operators: &O,
     context: &mut Context,
     runtime: &mut Runtime<M>,
     attempt: Attempt,
@@ -52,5 +51,5 @@ pub fn do_token<O: Operate, M: Memory>(
         }
     };
     let name = span.of(text);
-    do_name(name_kind, name, operators, context, runtime, attempt)
+    do_name::<O, M>(name_kind, name, context, runtime, attempt)
 }

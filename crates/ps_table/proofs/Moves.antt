@@ -5,7 +5,7 @@ use Rattle.std.proofs.lemmas.List.{set-get_or}
 use Rattle.ps_record.specs.declared.Record.{Record}
 use Rattle.ps_record.specs.Format.{ring_place, packed}
 use Rattle.ps_core_machine.specs.declared.events.Event.{Event}
-use Rattle.ps_core_machine.specs.declared.events.Event.TheVariants.{VmLoad, ClearLoad, ClearStore, HeaderStore}
+use Rattle.ps_core_machine.specs.declared.events.Event.TheVariants.{VmLoad, ClearStore, HeaderStore}
 use Rattle.ps_core_machine.specs.declared.events.Event.TheVariants.{FieldStore, RecordStore, EpochStore}
 use Rattle.ps_core_machine.specs.declared.events.Vm.{Vm}
 use Rattle.ps_core_machine.specs.Objects.{log_of}

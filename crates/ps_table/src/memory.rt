@@ -16,7 +16,7 @@ ghost use Rattle.ps_table.specs.Shown.{vm_did};
 
 use crate::mutator::VmSeat;
 use ps_language::kinds::Kind;
-use ps_mem::{Memory, NeedFault, Permit};
+use ps_mem::{FieldAt, Memory, NeedFault, Permit};
 use ps_record::slots::Slot;
 use ps_word::headers::Header;
 use ps_word::words::Word;
@@ -189,37 +189,29 @@ impl Memory for VmSeat {
         self.mirror.store(&mut self.table, &mut self.seat, slot, address, place, items);
     }
 
-    fn copy(&mut self, slot: Slot, from: u32, from_place: u32, to: u32, to_place: u32, count: u32)
+    fn copy(&mut self, slot: Slot, from: FieldAt, to: FieldAt, count: u32)
         requires granted { 1 ≤ (grants_of self.old.seat.me.0.vm).records slot }
         requires some { 1 ≤ count }
-        requires source { from_place + count
-            ≤ length (fields_at (heap_of self.old.seat.me.0.vm) from) }
-        requires target { to_place + count
-            ≤ length (fields_at (heap_of self.old.seat.me.0.vm) to) }
-        requires known { NamesStanding (heap_of self.old.seat.me.0.vm) to
-            (slice_range (fields_at (heap_of self.old.seat.me.0.vm) from) from_place
-            (from_place + count)) }
+        requires source { from.place + count
+            ≤ length (fields_at (heap_of self.old.seat.me.0.vm) from.address) }
+        requires target { to.place + count
+            ≤ length (fields_at (heap_of self.old.seat.me.0.vm) to.address) }
+        requires known { NamesStanding (heap_of self.old.seat.me.0.vm) to.address
+            (slice_range (fields_at (heap_of self.old.seat.me.0.vm) from.address) from.place
+            (from.place + count)) }
         ensures heap { heap_of self.new.seat.me.0.vm
-            ≡ stored (heap_of self.old.seat.me.0.vm) to to_place
-            (slice_range (fields_at (heap_of self.old.seat.me.0.vm) from) from_place
-            (from_place + count)) }
+            ≡ stored (heap_of self.old.seat.me.0.vm) to.address to.place
+            (slice_range (fields_at (heap_of self.old.seat.me.0.vm) from.address) from.place
+            (from.place + count)) }
         ensures grants { AfterStore (grants_of self.old.seat.me.0.vm)
             (grants_of self.new.seat.me.0.vm) slot }
         ensures logged { (grants_of self.new.seat.me.0.vm).put slot
             ≡ (grants_of self.old.seat.me.0.vm).put slot
-            + records_put (grants_of self.old.seat.me.0.vm) to }
+            + records_put (grants_of self.old.seat.me.0.vm) to.address }
         ensures table { self.new.seat.table_id ≡ self.old.seat.table_id }
     {
-        self.mirror.copy(
-            &mut self.table,
-            &mut self.seat,
-            slot,
-            from,
-            from_place,
-            to,
-            to_place,
-            count,
-        );
+        self.mirror
+            .copy(&mut self.table, &mut self.seat, slot, from, to, count);
     }
 
     /// As the memory's; `LogFull` is answered by the head that is loaded in the call.

@@ -20,6 +20,7 @@ use crate::steps::{vm_field, vm_record};
 use crate::words::Words;
 use crate::writes::vm_fields;
 use atomic_table::Seat;
+use ps_mem::FieldAt;
 use ps_record::Record;
 use ps_record::slots::Slot;
 use ps_word::words::Word;
@@ -132,44 +133,36 @@ impl Mirror {
         words: &mut W,
         seat: &mut Seat<(), View>,
         slot: Slot,
-        from: u32,
-        from_place: u32,
-        to: u32,
-        to_place: u32,
+        from: FieldAt,
+        to: FieldAt,
         count: u32,
     )
         requires sits { W.seats words.old seat.old
             × Sits (W.id words.old).words seat.old.me self.old }
         requires granted { 1 ≤ (grants_of seat.old.me.0.vm).records slot }
         requires some { 1 ≤ count }
-        requires source { from_place + count
-            ≤ length (fields_at (heap_of seat.old.me.0.vm) from) }
-        requires target { to_place + count ≤ length (fields_at (heap_of seat.old.me.0.vm) to) }
-        requires known { NamesStanding (heap_of seat.old.me.0.vm) to
-            (slice_range (fields_at (heap_of seat.old.me.0.vm) from) from_place
-            (from_place + count)) }
+        requires source { from.place + count
+            ≤ length (fields_at (heap_of seat.old.me.0.vm) from.address) }
+        requires target { to.place + count
+            ≤ length (fields_at (heap_of seat.old.me.0.vm) to.address) }
+        requires known { NamesStanding (heap_of seat.old.me.0.vm) to.address
+            (slice_range (fields_at (heap_of seat.old.me.0.vm) from.address) from.place
+            (from.place + count)) }
         ensures sits { W.seats words.new seat.new
             × Sits (W.id words.new).words seat.new.me self.new }
         ensures same { W.id words.new ≡ W.id words.old }
         ensures gc { KeepsGc seat.old.me.0 seat.new.me.0 }
-        ensures heap { heap_of seat.new.me.0.vm ≡ stored (heap_of seat.old.me.0.vm) to to_place
-            (slice_range (fields_at (heap_of seat.old.me.0.vm) from) from_place
-            (from_place + count)) }
+        ensures heap { heap_of seat.new.me.0.vm
+            ≡ stored (heap_of seat.old.me.0.vm) to.address to.place
+            (slice_range (fields_at (heap_of seat.old.me.0.vm) from.address) from.place
+            (from.place + count)) }
         ensures grants { AfterStore (grants_of seat.old.me.0.vm) (grants_of seat.new.me.0.vm)
             slot }
         ensures logged { (grants_of seat.new.me.0.vm).put slot
             ≡ (grants_of seat.old.me.0.vm).put slot
-            + records_put (grants_of seat.old.me.0.vm) to }
+            + records_put (grants_of seat.old.me.0.vm) to.address }
     {
-        vm_copy(
-            words,
-            seat,
-            from as u64,
-            from_place as u64,
-            to as u64,
-            to_place as u64,
-            count as u64,
-        );
-        settle(words, seat, self, slot, to, to_place, count);
+        vm_copy(words, seat, from, to, count as u64);
+        settle(words, seat, self, slot, to.address, to.place, count);
     }
 }

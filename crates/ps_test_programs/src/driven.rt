@@ -1,7 +1,7 @@
 //! The program over files and outputs in memory.
 
 use crate::fakes::{Files, LimitedOutput, makers_in};
-use ps_run::{ErrorOutput, Flushed, NoProgress, System, drive};
+use ps_run::{ErrorOutput, Flushed, NoProgress, Outside, System, drive};
 use std::alloc::{AllocError, Global};
 use std::sync::Wait;
 use std::thread::Threads;
@@ -28,12 +28,13 @@ pub const ALL_WRITES: Writes = Writes {
     err: AMPLE,
 };
 
-/// What a run gave: the status, and what stands on both outputs.
+/// What a run gave: the status, what stands on both outputs, and what was written to a file.
 #[derive(Drop)]
 pub struct Given {
     pub status: u8,
     pub out: Vec<u8>,
     pub err: Vec<u8>,
+    pub record: Option<Vec<u8>>,
 }
 
 /// What a run over these files gives, by threads of `rt`; the output has room for so many bytes from
@@ -41,27 +42,32 @@ pub struct Given {
 pub fn driven<R: Threads + Wait + Sync>(
     system: System<'_, R>,
     words: &[&str],
-    files: &mut Files<'_>,
+    files: Files<'_>,
     writes: Writes,
     room: usize,
 ) -> Result<Given, AllocError> {
     let alloc = system.alloc;
     let mut output = LimitedOutput::new(alloc, writes.out);
     output.bytes.reserve(room)?;
-    let mut err = ErrorOutput::new(LimitedOutput::new(alloc, writes.err), NoProgress);
+    let mut outside = Outside {
+        files,
+        err: ErrorOutput::new(LimitedOutput::new(alloc, writes.err), NoProgress),
+    };
     let (status, out) = drive(
         system,
         makers_in(alloc),
         words,
-        files,
         Flushed::new(output),
-        &mut err,
+        &mut outside,
     );
+    let Outside { files, err } = outside;
     let LimitedOutput { bytes: printed, .. } = out.into_inner();
     let LimitedOutput { bytes: told, .. } = err.into_inner();
+    let Files { written, .. } = files;
     Ok(Given {
         status,
         out: printed,
         err: told,
+        record: written,
     })
 }

@@ -16,18 +16,10 @@ use std::alloc::Global;
 use std::hash::RandomState;
 use std::io::{self, ErrorKind, Write};
 
-/// Who makes the steps of a context by the whole language.
-pub fn steps_in(alloc: Global) -> Steps<Operators> {
-    Steps {
-        operators: Operators,
-        text: Vec::new(alloc),
-    }
-}
-
 /// Who makes the steps of a run by the whole language.
 pub fn makers_in(alloc: Global) -> Makers<Steps<Operators>, WorldOperators> {
     Makers {
-        steps: steps_in(alloc),
+        steps: Steps::<Operators>::new(alloc),
         operators: WorldOperators { alloc },
     }
 }

@@ -114,11 +114,11 @@ impl Case<'_> {
         let System { alloc, .. } = system;
         let mut files = Files::new(alloc, bytes_in(&self.program), bytes_in(&self.schedule));
         files.takes_writes = self.takes_writes;
-        let given = driven(system, words, &mut files, writes, ROOM)?;
+        let given = driven(system, words, files, writes, ROOM)?;
         self.judge_ended(&given, self.status)?;
         let tells = self.told.is(given.err.as_slice(), self.err_faults > 0);
         expect(tells, "told")?;
-        expect(self.records(files.written.as_ref()), "record")
+        expect(self.records(given.record.as_ref()), "record")
     }
 
     /// Fails where a run that follows the record of a case isn't so.
@@ -127,9 +127,9 @@ impl Case<'_> {
         let Some(Wanted::Exactly(record)) = &self.record else {
             return Ok(());
         };
-        let mut files = Files::new(alloc, bytes_in(&self.program), Ok(record.as_slice()));
+        let files = Files::new(alloc, bytes_in(&self.program), Ok(record.as_slice()));
         let words = ["--replay", "s", "f"];
-        let given = driven(system, &words, &mut files, ALL_WRITES, ROOM)?;
+        let given = driven(system, &words, files, ALL_WRITES, ROOM)?;
         // Behind the steps of a run that wanted memory, a context could go on.
         let status = if self.status == MEMORY {
             STEPS_OUT
@@ -176,6 +176,7 @@ impl Case<'_> {
             status: status_of(report.outcome),
             out: report.printed,
             err: Vec::new(alloc),
+            record: None,
         };
         self.judge_ended(&given, self.status)?;
         let Ok(followed) = entries_of(alloc, &report.schedule) else {

@@ -5,7 +5,6 @@ ghost use Rattle.ps_ctx_start.specs.Starts.{first_machine};
 ghost use Rattle.ps_step_interpreter.specs.Courses.{IsAt};
 ghost use Rattle.ps_test_programs.specs.Plays.{held_over};
 
-use crate::fakes::steps_in;
 use anyhow::{Result, bail};
 use ps_ctx_start::start::Setup;
 use ps_mem::bounded::BoundedMemory;
@@ -89,7 +88,7 @@ impl<'a> Play<'a> {
             alloc,
             runtime: Runtime { shared, memory },
             context,
-            steps: steps_in(alloc),
+            steps: Steps::<Operators>::new(alloc),
         })
     }
 }

@@ -50,8 +50,8 @@ pub fn ran<R: Threads + Wait + Sync>(
     status: u8,
 ) -> Verdict {
     let System { alloc, .. } = system;
-    let mut files = Files::new(alloc, Ok(program), Err(ReadFault::NoRead));
-    let given = driven(system, words.all(), &mut files, ALL_WRITES, printed.len());
+    let files = Files::new(alloc, Ok(program), Err(ReadFault::NoRead));
+    let given = driven(system, words.all(), files, ALL_WRITES, printed.len());
     let Ok(given) = given else {
         return Verdict::WantsMemory;
     };

@@ -116,12 +116,8 @@ fn time_all(alloc: Global, order: &str, calls: u32, slot: Option<u32>) -> Result
 /// What a program comes to with a whole cycle behind each step: its steps, its flips, and what it
 /// prints.
 fn stressed(alloc: Global, keys: RandomState, program: &str) -> Result<String> {
-    let steps = Steps {
-        operators: Operators,
-        text: Vec::new(alloc),
-    };
     let makers = Makers {
-        steps,
+        steps: Steps::<Operators>::new(alloc),
         operators: WorldOperators { alloc },
     };
     let came = stress::<Brand, Steps<Operators>, WorldOperators>(

@@ -32,6 +32,14 @@ pub const SHOWN_LIMIT: usize = 65_535;
 /// How deep `==` goes into arrays in arrays.
 pub const NESTING_LIMIT: u8 = 32;
 
+/// What a value is printed with.
+#[derive(Clone, Copy)]
+struct Printer<'a> {
+    names: &'a Names,
+    /// The length at which the output is cut, in bytes.
+    end: usize,
+}
+
 /// What an array begins with: a procedure stands in braces.
 fn opening(executable: bool) -> &'static [u8]
     ensures { result.now ≡ (if executable then codes "{" else codes "[") }
@@ -49,29 +57,31 @@ fn closing(executable: bool) -> &'static [u8]
 /// Appends the text of what isn't gone into, as far as it fits: of an array `-array-`.
 fn append_simple<M: Memory>(
     memory: &mut M,
-    names: &Names,
+    printer: &Printer<'_>,
     content: Content,
     executable: bool,
-    end: usize,
     output: &mut Vec<u8>,
 ) -> Result<(), AllocError>
     requires sound { IsSound (M.heap memory.old) }
     requires known { IsKnownContent (M.heap memory.old) content }
     requires format { IsContent content }
-    requires short { length output.old.items ≤ end }
+    requires short { length output.old.items ≤ printer.now.end }
     ensures heap { M.heap memory.new ≡ M.heap memory.old }
     ensures grants { M.grants memory.new ≡ M.grants memory.old }
-    ensures goes_on { GoesOn end output.old.items output.new.items }
+    ensures goes_on { GoesOn printer.now.end output.old.items output.new.items }
     ensures capacity { vec_capacity output.old ≤ vec_capacity output.new }
-    ensures ok { (s : Store) → Shows (M.heap memory.old) names.now s → IsWithinContent (birth_at
-        (M.heap memory.old)) names.now s content → OnOk result (output.new.items ≡ take end
-        (output.old.items ++ simple_text s executable (what_of (birth_at (M.heap memory.old))
-        names.now content))) }
-    ensures full { (s : Store) → Shows (M.heap memory.old) names.now s → IsWithinContent (birth_at
-        (M.heap memory.old)) names.now s content → OnErr result (vec_capacity output.old < length
-        (take end (output.old.items ++ simple_text s executable (what_of (birth_at (M.heap
-        memory.old)) names.now content)))) }
+    ensures ok { (s : Store) → Shows (M.heap memory.old) printer.now.names.now s
+        → IsWithinContent (birth_at (M.heap memory.old)) printer.now.names.now s content
+        → OnOk result (output.new.items ≡ take printer.now.end (output.old.items ++ simple_text s
+        executable (what_of (birth_at (M.heap memory.old)) printer.now.names.now content))) }
+    ensures full { (s : Store) → Shows (M.heap memory.old) printer.now.names.now s
+        → IsWithinContent (birth_at (M.heap memory.old)) printer.now.names.now s content
+        → OnErr result (vec_capacity output.old < length (take printer.now.end (output.old.items
+        ++ simple_text s executable
+        (what_of (birth_at (M.heap memory.old)) printer.now.names.now content)))) }
 {
+    let names = printer.names;
+    let end = printer.end;
     match content {
         Content::Null | Content::Body(_) => append_cut(b"null", end, output),
         Content::Mark => append_cut(b"-mark-", end, output),
@@ -91,37 +101,38 @@ fn append_simple<M: Memory>(
 #[cycle(values)]
 fn append_value<M: Memory>(
     memory: &mut M,
-    names: &Names,
+    printer: &Printer<'_>,
     word: Word,
     depth: u8,
-    end: usize,
     output: &mut Vec<u8>,
 ) -> Result<(), AllocError>
     requires sound { IsSound (M.heap memory.old) }
     requires held { IsValue (M.heap memory.old) word }
-    requires short { length output.old.items ≤ end }
+    requires short { length output.old.items ≤ printer.now.end }
     ensures heap { M.heap memory.new ≡ M.heap memory.old }
     ensures grants { M.grants memory.new ≡ M.grants memory.old }
-    ensures goes_on { GoesOn end output.old.items output.new.items }
+    ensures goes_on { GoesOn printer.now.end output.old.items output.new.items }
     ensures capacity { vec_capacity output.old ≤ vec_capacity output.new }
-    ensures ok { (s : Store) → Shows (M.heap memory.old) names.now s → IsWithin (birth_at (M.heap
-        memory.old)) names.now s word → OnOk result (output.new.items ≡ take end (output.old.items
-        ++ text_to depth s (value_of (birth_at (M.heap memory.old)) names.now word))) }
-    ensures full { (s : Store) → Shows (M.heap memory.old) names.now s → IsWithin (birth_at (M.heap
-        memory.old)) names.now s word → OnErr result (vec_capacity output.old < length (take end
-        (output.old.items ++ text_to depth s (value_of (birth_at (M.heap memory.old)) names.now
-        word)))) }
+    ensures ok { (s : Store) → Shows (M.heap memory.old) printer.now.names.now s
+        → IsWithin (birth_at (M.heap memory.old)) printer.now.names.now s word
+        → OnOk result (output.new.items ≡ take printer.now.end (output.old.items
+        ++ text_to depth s (value_of (birth_at (M.heap memory.old)) printer.now.names.now word))) }
+    ensures full { (s : Store) → Shows (M.heap memory.old) printer.now.names.now s
+        → IsWithin (birth_at (M.heap memory.old)) printer.now.names.now s word
+        → OnErr result (vec_capacity output.old < length (take printer.now.end (output.old.items
+        ++ text_to depth s (value_of (birth_at (M.heap memory.old)) printer.now.names.now word)))) }
 {
+    let end = printer.end;
     let content = word.content();
     let executable = word.is_executable();
     let Content::Array(part) = content else {
-        return append_simple(memory, names, content, executable, end, output);
+        return append_simple(memory, printer, content, executable, output);
     };
     if depth == 0 || !is_readable(part.access) {
         return append_cut(b"-array-", end, output);
     }
     append_cut(opening(executable), end, output)?;
-    append_elements(memory, names, part, depth - 1, end, output)?;
+    append_elements(memory, printer, part, depth - 1, output)?;
     append_cut(closing(executable), end, output)
 }
 
@@ -130,34 +141,36 @@ fn append_value<M: Memory>(
 #[cycle(values)]
 fn append_elements<M: Memory>(
     memory: &mut M,
-    names: &Names,
+    printer: &Printer<'_>,
     part: Part,
     depth: u8,
-    end: usize,
     output: &mut Vec<u8>,
 ) -> Result<(), AllocError>
     requires sound { IsSound (M.heap memory.old) }
     requires known { StandsAs (M.heap memory.old) Kind.Array part.address (part.offset +
         part.length) }
-    requires short { length output.old.items ≤ end }
+    requires short { length output.old.items ≤ printer.now.end }
     ensures heap { M.heap memory.new ≡ M.heap memory.old }
     ensures grants { M.grants memory.new ≡ M.grants memory.old }
-    ensures goes_on { GoesOn end output.old.items output.new.items }
+    ensures goes_on { GoesOn printer.now.end output.old.items output.new.items }
     ensures capacity { vec_capacity output.old ≤ vec_capacity output.new }
-    ensures ok { (s : Store) → Shows (M.heap memory.old) names.now s → OnOk result (output.new.items
-        ≡ take end (output.old.items ++ join_with_byte 32 (map (text_to depth s) (part_elements s
+    ensures ok { (s : Store) → Shows (M.heap memory.old) printer.now.names.now s
+        → OnOk result (output.new.items ≡ take printer.now.end (output.old.items
+        ++ join_with_byte 32 (map (text_to depth s) (part_elements s
         (part_of (birth_at (M.heap memory.old)) part))))) }
-    ensures full { (s : Store) → Shows (M.heap memory.old) names.now s → OnErr result (vec_capacity
-        output.old < length (take end (output.old.items ++ join_with_byte 32 (map (text_to depth s)
-        (part_elements s (part_of (birth_at (M.heap memory.old)) part)))))) }
+    ensures full { (s : Store) → Shows (M.heap memory.old) printer.now.names.now s
+        → OnErr result (vec_capacity output.old < length (take printer.now.end (output.old.items
+        ++ join_with_byte 32 (map (text_to depth s) (part_elements s
+        (part_of (birth_at (M.heap memory.old)) part)))))) }
 {
+    let end = printer.end;
     for index in 0..part.length {
         if output.len() >= end {
             return Ok(());
         }
         let word = element(memory, part, index);
         append_separator(index, end, output)?;
-        append_value(memory, names, word, depth, end, output)?;
+        append_value(memory, printer, word, depth, output)?;
     }
     Ok(())
 }
@@ -191,7 +204,8 @@ pub fn append_full<M: Memory>(
 {
     let start = output.len();
     let end = start + SHOWN_LIMIT;
-    if append_value(memory, names, word, NESTING_LIMIT, end, output).is_err() {
+    let printer = Printer { names, end };
+    if append_value(memory, &printer, word, NESTING_LIMIT, output).is_err() {
         output.truncate(start);
         return Err(AllocError);
     }

@@ -8,7 +8,7 @@
 //!   it is written. The bytes of a string are counted first.
 //! - A string in parentheses is read by blocks. A block is tested whole for bytes that have an
 //!   escape, many at once, and copied at once where it has none.
-//! - This crate has its own test of read access: it shouldn't stand on `ps_ops_arrays`.
+//! - This crate has its own test of read access: it shouldn't stand on `ps_ops_operands`.
 #![tactic(auto)]
 
 mod appends;

@@ -26,7 +26,7 @@ pub struct Job<'a, S: Drop, D: Drop> {
 }
 
 impl<'a, S: Drop, D: Drop> Job<'a, S, D> {
-    /// The same without its numbers, but for the most bytes that it may print.
+    /// Its program and makers, without its numbers but for the most bytes that it may print.
     pub fn into_task(self) -> Task<'a, S, D>
         ensures program { result.program.now ≡ self.entry.program.now }
         ensures output { result.setup.output ≡ self.entry.config.output }

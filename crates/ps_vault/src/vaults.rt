@@ -26,7 +26,6 @@ use ps_core_laws::collected::Counts;
 use ps_ctx::deeds::Deeds;
 use ps_ctx::makers::Makers;
 use ps_ctx::notes::Note;
-use ps_ctx::runs::Advance;
 use ps_ctx::starts::start_world;
 use ps_ctx::worlds::World;
 use ps_mem::{Memory, Slot};
@@ -34,13 +33,15 @@ use ps_ops_operands::failure::NotMade;
 use ps_ops_state::lent::{Attempt, Runtime, Shared};
 use ps_run_schedules::Schedule;
 use ps_step_interpreter::interprets::Interpret;
+use ps_step_outcome::batches::Batch;
 use std::alloc::{AllocError, Global};
 use std::marker::Model;
 
 /// All contexts, who makes their steps, their memory, and the steps that they made: seen as the
 /// program, the most bytes that it may print and entries that the schedule may have, the schedule,
-/// how many entries find room, whose call waits, the words of the memory's space, those that are used, how often what
-/// stands was moved, whether a cycle of the collector is open, and which logs are closed.
+/// how many entries find room, whose call waits, the words of the memory's space, those that are
+/// used, how often what stands was moved, whether a cycle of the collector is open, and which logs
+/// are closed.
 #[derive(Drop)]
 pub struct Vault<'a, M: Memory + Drop, S: Interpret + Drop, D: Deeds + Drop> {
     makers: Makers<S, D>,
@@ -361,7 +362,7 @@ impl<M: Memory + Drop, S: Interpret + Drop, D: Deeds + Drop> Vault<'_, M, S, D> 
         ensures room { IfHeldUp (IfForRoom false self.new context) result.told }
     {
         let most = most.min(self.schedule.free_steps(context));
-        let Advance { made, next } = self.world.go_on(
+        let Batch { made, next } = self.world.go_on(
             &mut self.makers,
             &mut self.runtime,
             context,

@@ -35,10 +35,7 @@ pub extern "C" fn tallowmarch_version() -> u32
 /// Who makes the steps and does the operators of the language.
 fn makers(alloc: Global) -> Makers<Steps<Operators>, WorldOperators> {
     Makers {
-        steps: Steps {
-            operators: Operators,
-            text: Vec::new(alloc),
-        },
+        steps: Steps::<Operators>::new(alloc),
         operators: WorldOperators { alloc },
     }
 }

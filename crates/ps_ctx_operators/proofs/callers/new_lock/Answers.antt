@@ -1,7 +1,7 @@
 -- It does what the definitions say.
 use Rattle.std.proofs.Common.{sym, subst}
 use Rattle.std.specs.Prelude.{Result}
-use Rattle.ps_language.specs.declared.operators.Operator.TheVariants.{Lock}
+use Rattle.ps_step_outcome.specs.declared.world_operators.WorldOperator.TheVariants.{Lock}
 use Rattle.ps_ops_state.specs.declared.breaks.Break.{Break}
 use Rattle.ps_ops_state.specs.Lent.{Lent, lent_of}
 use Rattle.ps_ctx_table.specs.declared.members.Member.{Member}

@@ -1,6 +1,6 @@
 -- The context that is named is detached; or there is none, or nothing is read.
 use Rattle.std.proofs.Common.{List, Option, Ok, sym, subst}
-use Rattle.ps_language.specs.declared.operators.Operator.TheVariants.{Detach}
+use Rattle.ps_step_outcome.specs.declared.world_operators.WorldOperator.TheVariants.{Detach}
 use Rattle.ps_ops_state.specs.Lent.{Lent, lent_of}
 use Rattle.ps_ctx_table.specs.declared.members.Member.{Member}
 use Rattle.ps_ctx_table.specs.Desks.{Desk, desk_unmade, IsGoodMember}

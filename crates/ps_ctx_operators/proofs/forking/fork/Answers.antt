@@ -1,6 +1,6 @@
 -- A context is made, or none is.
 use Rattle.std.proofs.Common.{◌∙◌, ◌<◌, List, [], ◌∷◌, ◌++◌, Option, Some, Ok, Err, sym, ap, subst}
-use Rattle.ps_language.specs.declared.operators.Operator.TheVariants.{Fork}
+use Rattle.ps_step_outcome.specs.declared.world_operators.WorldOperator.TheVariants.{Fork}
 use Rattle.ps_ops_state.specs.declared.breaks.Break.{Break}
 use Rattle.ps_ops_state.specs.Lent.{Lent, lent_of}
 use Rattle.ps_ctx_table.specs.declared.members.Member.{Member}

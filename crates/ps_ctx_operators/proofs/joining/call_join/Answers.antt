@@ -1,6 +1,6 @@
 -- The caller waits, or what was done comes to its end.
 use Rattle.std.proofs.Common.{Ok, subst, ap, ◌∙◌}
-use Rattle.ps_language.specs.declared.operators.Operator.TheVariants.{Join}
+use Rattle.ps_step_outcome.specs.declared.world_operators.WorldOperator.TheVariants.{Join}
 use Rattle.ps_ctx_table.specs.Desks.{Desk}
 use Rattle.ps_ctx.specs.Calls.{over_of}
 use Rattle.ps_ctx_operators.specs.declared.joining.Found.{Found}

@@ -1,6 +1,6 @@
 -- Who waits is notified.
 use Rattle.std.proofs.Common.{Ok, sym, subst}
-use Rattle.ps_language.specs.declared.operators.Operator.TheVariants.{Notify}
+use Rattle.ps_step_outcome.specs.declared.world_operators.WorldOperator.TheVariants.{Notify}
 use Rattle.ps_mem.specs.Heap.{birth_at}
 use Rattle.ps_ops_state.specs.Lent.{Lent, lent_of}
 use Rattle.ps_ctx_table.specs.declared.members.Member.{Member}

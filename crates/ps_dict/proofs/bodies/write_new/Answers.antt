@@ -20,8 +20,8 @@ fill_words-requires-clause-few g c =
     let h = g.M.Memory.heap c.args.memory.now in
     let a = c.args.address in
     let b = c.alloc_body-body.result in
-    let k = c.args.capacity in
-    let ps = take c.args.count (pairs_of_words c.args.words.now) in
+    let k = c.args.size.capacity in
+    let ps = take c.args.size.count (pairs_of_words c.args.words.now) in
     let room : length ps ≤ k = let n = c.requires.count in let r = c.requires.room in
     omega (arith, n, r) in
     let before : g.M.Memory.heap c.load-access.new.self ≡ h = c.load-access.ensures.heap in
@@ -41,8 +41,8 @@ fill_words-requires-clause-target g c =
     let h = g.M.Memory.heap c.args.memory.now in
     let a = c.args.address in
     let b = c.alloc_body-body.result in
-    let k = c.args.capacity in
-    let ps = take c.args.count (pairs_of_words c.args.words.now) in
+    let k = c.args.size.capacity in
+    let ps = take c.args.size.count (pairs_of_words c.args.words.now) in
     let room : length ps ≤ k = let n = c.requires.count in let r = c.requires.room in
     omega (arith, n, r) in
     let before : g.M.Memory.heap c.load-access.new.self ≡ h = c.load-access.ensures.heap in
@@ -64,8 +64,8 @@ fill_words-requires-clause-known g c =
     let h = g.M.Memory.heap c.args.memory.now in
     let a = c.args.address in
     let b = c.alloc_body-body.result in
-    let k = c.args.capacity in
-    let ps = take c.args.count (pairs_of_words c.args.words.now) in
+    let k = c.args.size.capacity in
+    let ps = take c.args.size.count (pairs_of_words c.args.words.now) in
     let room : length ps ≤ k = let n = c.requires.count in let r = c.requires.room in
     omega (arith, n, r) in
     let before : g.M.Memory.heap c.load-access.new.self ≡ h = c.load-access.ensures.heap in
@@ -84,8 +84,8 @@ store-requires-clause-known g c =
     let h = g.M.Memory.heap c.args.memory.now in
     let a = c.args.address in
     let b = c.alloc_body-body.result in
-    let k = c.args.capacity in
-    let ps = take c.args.count (pairs_of_words c.args.words.now) in
+    let k = c.args.size.capacity in
+    let ps = take c.args.size.count (pairs_of_words c.args.words.now) in
     let room : length ps ≤ k = let n = c.requires.count in let r = c.requires.room in
     omega (arith, n, r) in
     let before : g.M.Memory.heap c.load-access.new.self ≡ h = c.load-access.ensures.heap in
@@ -119,8 +119,8 @@ store-requires-clause-place g c =
     let h = g.M.Memory.heap c.args.memory.now in
     let a = c.args.address in
     let b = c.alloc_body-body.result in
-    let k = c.args.capacity in
-    let ps = take c.args.count (pairs_of_words c.args.words.now) in
+    let k = c.args.size.capacity in
+    let ps = take c.args.size.count (pairs_of_words c.args.words.now) in
     let room : length ps ≤ k = let n = c.requires.count in let r = c.requires.room in
     omega (arith, n, r) in
     let before : g.M.Memory.heap c.load-access.new.self ≡ h = c.load-access.ensures.heap in
@@ -151,8 +151,8 @@ returns-clause-sound g c =
     let h = g.M.Memory.heap c.args.memory.now in
     let a = c.args.address in
     let b = c.alloc_body-body.result in
-    let k = c.args.capacity in
-    let ps = take c.args.count (pairs_of_words c.args.words.now) in
+    let k = c.args.size.capacity in
+    let ps = take c.args.size.count (pairs_of_words c.args.words.now) in
     let room : length ps ≤ k = let n = c.requires.count in let r = c.requires.room in
     omega (arith, n, r) in
     let before : g.M.Memory.heap c.load-access.new.self ≡ h = c.load-access.ensures.heap in
@@ -189,8 +189,8 @@ returns-clause-keeps g c =
     let h = g.M.Memory.heap c.args.memory.now in
     let a = c.args.address in
     let b = c.alloc_body-body.result in
-    let k = c.args.capacity in
-    let ps = take c.args.count (pairs_of_words c.args.words.now) in
+    let k = c.args.size.capacity in
+    let ps = take c.args.size.count (pairs_of_words c.args.words.now) in
     let room : length ps ≤ k = let n = c.requires.count in let r = c.requires.room in
     omega (arith, n, r) in
     let before : g.M.Memory.heap c.load-access.new.self ≡ h = c.load-access.ensures.heap in
@@ -227,8 +227,8 @@ returns-clause-shows g c = λ names s shows within.
     let h = g.M.Memory.heap c.args.memory.now in
     let a = c.args.address in
     let b = c.alloc_body-body.result in
-    let k = c.args.capacity in
-    let ps = take c.args.count (pairs_of_words c.args.words.now) in
+    let k = c.args.size.capacity in
+    let ps = take c.args.size.count (pairs_of_words c.args.words.now) in
     let room : length ps ≤ k = let n = c.requires.count in let r = c.requires.room in
     omega (arith, n, r) in
     let before : g.M.Memory.heap c.load-access.new.self ≡ h = c.load-access.ensures.heap in

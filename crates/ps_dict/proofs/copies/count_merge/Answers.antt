@@ -9,30 +9,30 @@ use Rattle.ps_dict.proofs.copies.count_merge.Goals as goal
 pub returns-then-more-eq0-clause-plan : goal.returns-then-more-eq0-clause-plan
 returns-then-more-eq0-clause-plan g c =
     let h = g.M.Memory.heap c.args.memory.now in
-    let none : count_at h c.args.from ≡ 0 = sym c.length-more.ensures.words ∙ c.if-more-eq0.true in
-    sym (planned-none h c.requires.sound c.args.to c.args.from c.requires.target
+    let none : count_at h c.args.merge.from ≡ 0 = sym c.length-more.ensures.words ∙ c.if-more-eq0.true in
+    sym (planned-none h c.requires.sound c.args.merge.to c.args.merge.from c.requires.target
     c.requires.source none)
 
 pub returns-then-more-eq0-clause-value : goal.returns-then-more-eq0-clause-value
 returns-then-more-eq0-clause-value g c = λ names s shows distinct.
     returns-then-more-eq0-clause-plan g c
-    ∙ planned-shown (g.M.Memory.heap c.args.memory.now) c.requires.sound c.args.to c.args.from
+    ∙ planned-shown (g.M.Memory.heap c.args.memory.now) c.requires.sound c.args.merge.to c.args.merge.from
     c.requires.target c.requires.source names s shows distinct
 
 pub plan_of-requires : goal.plan_of-requires
 plan_of-requires g c =
     let h = g.M.Memory.heap c.args.memory.now in
-    let capacity : c.capacity-capacity.result ≡ capacity_at h c.args.to =
+    let capacity : c.capacity-capacity.result ≡ capacity_at h c.args.merge.to =
     c.capacity-capacity.ensures.words
-    ∙ ap (λ (k : Heap). capacity_at k c.args.to) c.length-more.ensures.heap in
-    let few = few-places h c.args.to c.requires.target c.requires.sound in
+    ∙ ap (λ (k : Heap). capacity_at k c.args.merge.to) c.length-more.ensures.heap in
+    let few = few-places h c.args.merge.to c.requires.target c.requires.sound in
     omega (arith, capacity, few)
 
 pub returns-clause-plan : goal.returns-clause-plan
 returns-clause-plan g c =
     let h = g.M.Memory.heap c.args.memory.now in
-    let to = c.args.to in
-    let from = c.args.from in
+    let to = c.args.merge.to in
+    let from = c.args.merge.from in
     let before : g.M.Memory.heap c.capacity-capacity.new.memory ≡ h =
     c.capacity-capacity.ensures.heap ∙ c.length-more.ensures.heap in
     let capacity : c.capacity-capacity.result ≡ capacity_at h to =
@@ -52,5 +52,5 @@ returns-clause-plan g c =
 pub returns-clause-value : goal.returns-clause-value
 returns-clause-value g c = λ names s shows distinct.
     returns-clause-plan g c
-    ∙ planned-shown (g.M.Memory.heap c.args.memory.now) c.requires.sound c.args.to c.args.from
+    ∙ planned-shown (g.M.Memory.heap c.args.memory.now) c.requires.sound c.args.merge.to c.args.merge.from
     c.requires.target c.requires.source names s shows distinct

@@ -18,8 +18,8 @@ use Rattle.ps_dict.proofs.copies.plan_merge.Goals as goal
 pub returns-then-length-eq0-clause-plan : goal.returns-then-length-eq0-clause-plan
 returns-then-length-eq0-clause-plan g c =
     let h = g.M.Memory.heap c.args.memory.now in
-    let to = c.args.to in
-    let from = c.args.from in
+    let to = c.args.merge.to in
+    let from = c.args.merge.from in
     let sound = c.requires.sound in
     let target = c.requires.target in
     let source = c.requires.source in
@@ -34,8 +34,8 @@ returns-then-length-eq0-clause-words g c =
 pub returns-then-length-eq0-clause-value : goal.returns-then-length-eq0-clause-value
 returns-then-length-eq0-clause-value g c = λ names s shows distinct.
     let h = g.M.Memory.heap c.args.memory.now in
-    let to = c.args.to in
-    let from = c.args.from in
+    let to = c.args.merge.to in
+    let from = c.args.merge.from in
     let sound = c.requires.sound in
     let target = c.requires.target in
     let source = c.requires.source in
@@ -45,8 +45,8 @@ returns-then-length-eq0-clause-value g c = λ names s shows distinct.
 pub returns-then-length-eq0-clause-full : goal.returns-then-length-eq0-clause-full
 returns-then-length-eq0-clause-full g c = λ names s shows distinct.
     let h = g.M.Memory.heap c.args.memory.now in
-    let to = c.args.to in
-    let from = c.args.from in
+    let to = c.args.merge.to in
+    let from = c.args.merge.from in
     let sound = c.requires.sound in
     let target = c.requires.target in
     let source = c.requires.source in
@@ -59,8 +59,8 @@ returns-then-length-eq0-clause-full g c = λ names s shows distinct.
 pub returns-in_err-merge_words-clause-short : goal.returns-in_err-merge_words-clause-short
 returns-in_err-merge_words-clause-short g c =
     let h = g.M.Memory.heap c.args.memory.now in
-    let to = c.args.to in
-    let from = c.args.from in
+    let to = c.args.merge.to in
+    let from = c.args.merge.from in
     let sound = c.requires.sound in
     let target = c.requires.target in
     let source = c.requires.source in
@@ -80,8 +80,8 @@ returns-in_err-merge_words-clause-short g c =
 pub plan_body-requires-clause-limit : goal.plan_body-requires-clause-limit
 plan_body-requires-clause-limit g c =
     let h = g.M.Memory.heap c.args.memory.now in
-    let to = c.args.to in
-    let from = c.args.from in
+    let to = c.args.merge.to in
+    let from = c.args.merge.from in
     let sound = c.requires.sound in
     let target = c.requires.target in
     let source = c.requires.source in
@@ -94,8 +94,8 @@ plan_body-requires-clause-limit g c =
 pub plan_body-requires-clause-few : goal.plan_body-requires-clause-few
 plan_body-requires-clause-few g c =
     let h = g.M.Memory.heap c.args.memory.now in
-    let to = c.args.to in
-    let from = c.args.from in
+    let to = c.args.merge.to in
+    let from = c.args.merge.from in
     let sound = c.requires.sound in
     let target = c.requires.target in
     let source = c.requires.source in
@@ -114,8 +114,8 @@ plan_body-requires-clause-few g c =
 pub plan_body-requires-clause-even : goal.plan_body-requires-clause-even
 plan_body-requires-clause-even g c =
     let h = g.M.Memory.heap c.args.memory.now in
-    let to = c.args.to in
-    let from = c.args.from in
+    let to = c.args.merge.to in
+    let from = c.args.merge.from in
     let sound = c.requires.sound in
     let target = c.requires.target in
     let source = c.requires.source in
@@ -133,8 +133,8 @@ plan_body-requires-clause-even g c =
 pub plan_body-requires-clause-held : goal.plan_body-requires-clause-held
 plan_body-requires-clause-held g c =
     let h = g.M.Memory.heap c.args.memory.now in
-    let to = c.args.to in
-    let from = c.args.from in
+    let to = c.args.merge.to in
+    let from = c.args.merge.from in
     let sound = c.requires.sound in
     let target = c.requires.target in
     let source = c.requires.source in
@@ -150,8 +150,8 @@ plan_body-requires-clause-held g c =
 pub returns-clause-plan : goal.returns-clause-plan
 returns-clause-plan g c =
     let h = g.M.Memory.heap c.args.memory.now in
-    let to = c.args.to in
-    let from = c.args.from in
+    let to = c.args.merge.to in
+    let from = c.args.merge.from in
     let sound = c.requires.sound in
     let target = c.requires.target in
     let source = c.requires.source in
@@ -183,8 +183,8 @@ pub returns-clause-words : goal.returns-clause-words
 unfolding merge_words_at
 returns-clause-words g c =
     let h = g.M.Memory.heap c.args.memory.now in
-    let to = c.args.to in
-    let from = c.args.from in
+    let to = c.args.merge.to in
+    let from = c.args.merge.from in
     let sound = c.requires.sound in
     let target = c.requires.target in
     let source = c.requires.source in
@@ -213,8 +213,8 @@ returns-clause-words g c =
 pub returns-clause-value : goal.returns-clause-value
 returns-clause-value g c = λ names s shows distinct.
     let h = g.M.Memory.heap c.args.memory.now in
-    let to = c.args.to in
-    let from = c.args.from in
+    let to = c.args.merge.to in
+    let from = c.args.merge.from in
     let sound = c.requires.sound in
     let target = c.requires.target in
     let source = c.requires.source in
@@ -228,8 +228,8 @@ returns-clause-value g c = λ names s shows distinct.
 pub returns-clause-full : goal.returns-clause-full
 returns-clause-full g c = λ names s shows distinct.
     let h = g.M.Memory.heap c.args.memory.now in
-    let to = c.args.to in
-    let from = c.args.from in
+    let to = c.args.merge.to in
+    let from = c.args.merge.from in
     let sound = c.requires.sound in
     let target = c.requires.target in
     let source = c.requires.source in
@@ -248,8 +248,8 @@ returns-clause-full g c = λ names s shows distinct.
 pub returns-clause-short : goal.returns-clause-short
 returns-clause-short g c =
     let h = g.M.Memory.heap c.args.memory.now in
-    let to = c.args.to in
-    let from = c.args.from in
+    let to = c.args.merge.to in
+    let from = c.args.merge.from in
     let sound = c.requires.sound in
     let target = c.requires.target in
     let source = c.requires.source in

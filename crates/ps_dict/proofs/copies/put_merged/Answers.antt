@@ -14,8 +14,8 @@ pub write_over-requires-clause-count : goal.write_over-requires-clause-count
 unfolding merge_words_at
 write_over-requires-clause-count g c =
     let h = g.M.Memory.heap c.args.memory.now in
-    let to = c.args.to in
-    let from = c.args._from in
+    let to = c.args.merge.to in
+    let from = c.args.merge.from in
     let sound = c.requires.sound in
     let target = c.requires.target in
     let source = c.requires.source in
@@ -31,8 +31,8 @@ pub write_over-requires-clause-some : goal.write_over-requires-clause-some
 unfolding merge_words_at
 write_over-requires-clause-some g c =
     let h = g.M.Memory.heap c.args.memory.now in
-    let to = c.args.to in
-    let from = c.args._from in
+    let to = c.args.merge.to in
+    let from = c.args.merge.from in
     let sound = c.requires.sound in
     let target = c.requires.target in
     let source = c.requires.source in
@@ -49,8 +49,8 @@ pub write_over-requires-clause-room : goal.write_over-requires-clause-room
 unfolding merge_words_at
 write_over-requires-clause-room g c =
     let h = g.M.Memory.heap c.args.memory.now in
-    let to = c.args.to in
-    let from = c.args._from in
+    let to = c.args.merge.to in
+    let from = c.args.merge.from in
     let sound = c.requires.sound in
     let target = c.requires.target in
     let source = c.requires.source in
@@ -65,8 +65,8 @@ pub write_over-requires-clause-held : goal.write_over-requires-clause-held
 unfolding merge_words_at
 write_over-requires-clause-held g c =
     let h = g.M.Memory.heap c.args.memory.now in
-    let to = c.args.to in
-    let from = c.args._from in
+    let to = c.args.merge.to in
+    let from = c.args.merge.from in
     let sound = c.requires.sound in
     let target = c.requires.target in
     let source = c.requires.source in
@@ -82,8 +82,8 @@ pub write_over-requires-clause-words : goal.write_over-requires-clause-words
 unfolding merge_words_at
 write_over-requires-clause-words g c =
     let h = g.M.Memory.heap c.args.memory.now in
-    let to = c.args.to in
-    let from = c.args._from in
+    let to = c.args.merge.to in
+    let from = c.args.merge.from in
     let sound = c.requires.sound in
     let target = c.requires.target in
     let source = c.requires.source in
@@ -99,8 +99,8 @@ pub write_new-requires-clause-capacity : goal.write_new-requires-clause-capacity
 unfolding merge_words_at
 write_new-requires-clause-capacity g c =
     let h = g.M.Memory.heap c.args.memory.now in
-    let to = c.args.to in
-    let from = c.args._from in
+    let to = c.args.merge.to in
+    let from = c.args.merge.from in
     let sound = c.requires.sound in
     let target = c.requires.target in
     let source = c.requires.source in
@@ -115,8 +115,8 @@ pub write_new-requires-clause-count : goal.write_new-requires-clause-count
 unfolding merge_words_at
 write_new-requires-clause-count g c =
     let h = g.M.Memory.heap c.args.memory.now in
-    let to = c.args.to in
-    let from = c.args._from in
+    let to = c.args.merge.to in
+    let from = c.args.merge.from in
     let sound = c.requires.sound in
     let target = c.requires.target in
     let source = c.requires.source in
@@ -132,8 +132,8 @@ pub write_new-requires-clause-room : goal.write_new-requires-clause-room
 unfolding merge_words_at
 write_new-requires-clause-room g c =
     let h = g.M.Memory.heap c.args.memory.now in
-    let to = c.args.to in
-    let from = c.args._from in
+    let to = c.args.merge.to in
+    let from = c.args.merge.from in
     let sound = c.requires.sound in
     let target = c.requires.target in
     let source = c.requires.source in
@@ -148,8 +148,8 @@ pub write_new-requires-clause-held : goal.write_new-requires-clause-held
 unfolding merge_words_at
 write_new-requires-clause-held g c =
     let h = g.M.Memory.heap c.args.memory.now in
-    let to = c.args.to in
-    let from = c.args._from in
+    let to = c.args.merge.to in
+    let from = c.args.merge.from in
     let sound = c.requires.sound in
     let target = c.requires.target in
     let source = c.requires.source in
@@ -165,8 +165,8 @@ pub write_new-requires-clause-words : goal.write_new-requires-clause-words
 unfolding merge_words_at
 write_new-requires-clause-words g c =
     let h = g.M.Memory.heap c.args.memory.now in
-    let to = c.args.to in
-    let from = c.args._from in
+    let to = c.args.merge.to in
+    let from = c.args.merge.from in
     let sound = c.requires.sound in
     let target = c.requires.target in
     let source = c.requires.source in
@@ -182,8 +182,8 @@ pub returns-in-Rewrite-clause-shows : goal.returns-in-Rewrite-clause-shows
 unfolding merge_words_at
 returns-in-Rewrite-clause-shows g c = λ names s shows distinct d holds.
     let h = g.M.Memory.heap c.args.memory.now in
-    let to = c.args.to in
-    let from = c.args._from in
+    let to = c.args.merge.to in
+    let from = c.args.merge.from in
     let sound = c.requires.sound in
     let target = c.requires.target in
     let source = c.requires.source in
@@ -210,8 +210,8 @@ pub returns-in-Grow-clause-shows : goal.returns-in-Grow-clause-shows
 unfolding merge_words_at
 returns-in-Grow-clause-shows g c = λ names s shows distinct d holds.
     let h = g.M.Memory.heap c.args.memory.now in
-    let to = c.args.to in
-    let from = c.args._from in
+    let to = c.args.merge.to in
+    let from = c.args.merge.from in
     let sound = c.requires.sound in
     let target = c.requires.target in
     let source = c.requires.source in
@@ -236,8 +236,8 @@ returns-in-Grow-clause-shows g c = λ names s shows distinct d holds.
 pub returns-in-Keep-clause-shows : goal.returns-in-Keep-clause-shows
 returns-in-Keep-clause-shows g c = λ names s shows distinct d holds.
     let h = g.M.Memory.heap c.args.memory.now in
-    let to = c.args.to in
-    let from = c.args._from in
+    let to = c.args.merge.to in
+    let from = c.args.merge.from in
     let sound = c.requires.sound in
     let target = c.requires.target in
     let source = c.requires.source in

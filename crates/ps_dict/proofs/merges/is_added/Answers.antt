@@ -10,33 +10,33 @@ pub returns-in-Some-position-clause-answer : goal.returns-in-Some-position-claus
 returns-in-Some-position-clause-answer g c =
     let h = g.M.Memory.heap c.args.memory.now in
     let key = c.in-Some.key in
-    let read : slice_get (pairs_at h c.args.from) c.args.place ≡ Some (key, c.in-Some.field-0-1) =
+    let read : slice_get (pairs_at h c.args.merge.from) c.args.place ≡ Some (key, c.in-Some.field-0-1) =
     sym c.pair.ensures.words ∙ c.in-Some.is in
-    let there : place_of (pairs_at h c.args.to) key ≡ Some c.in-Some-position.field-0 =
+    let there : place_of (pairs_at h c.args.merge.to) key ≡ Some c.in-Some-position.field-0 =
     sym (c.position.ensures.words
-    ∙ ap (λ (k : Heap). place_of (pairs_at k c.args.to) key) c.pair.ensures.heap)
+    ∙ ap (λ (k : Heap). place_of (pairs_at k c.args.merge.to) key) c.pair.ensures.heap)
     ∙ c.in-Some-position.is in
-    let same = count-there (pairs_at h c.args.to) (pairs_at h c.args.from) c.args.place
-    (key, c.in-Some.field-0-1) read _ (place-kept key (pairs_at h c.args.to)
-    (take c.args.place (pairs_at h c.args.from)) _ there) in
+    let same = count-there (pairs_at h c.args.merge.to) (pairs_at h c.args.merge.from) c.args.place
+    (key, c.in-Some.field-0-1) read _ (place-kept key (pairs_at h c.args.merge.to)
+    (take c.args.place (pairs_at h c.args.merge.from)) _ there) in
     omega (arith, same)
 
 pub returns-in-Some-position-2-clause-answer : goal.returns-in-Some-position-2-clause-answer
 returns-in-Some-position-2-clause-answer g c =
     let h = g.M.Memory.heap c.args.memory.now in
     let key = c.in-Some.key in
-    let read : slice_get (pairs_at h c.args.from) c.args.place ≡ Some (key, c.in-Some.field-0-1) =
+    let read : slice_get (pairs_at h c.args.merge.from) c.args.place ≡ Some (key, c.in-Some.field-0-1) =
     sym c.pair.ensures.words ∙ c.in-Some.is in
-    let to : place_of (pairs_at h c.args.to) key ≡ None =
+    let to : place_of (pairs_at h c.args.merge.to) key ≡ None =
     sym (c.position.ensures.words
-    ∙ ap (λ (k : Heap). place_of (pairs_at k c.args.to) key) c.pair.ensures.heap)
+    ∙ ap (λ (k : Heap). place_of (pairs_at k c.args.merge.to) key) c.pair.ensures.heap)
     ∙ c.in-None.is in
-    let from : place_of (pairs_at h c.args.from) key ≡ Some c.in-Some-position-2.first =
+    let from : place_of (pairs_at h c.args.merge.from) key ≡ Some c.in-Some-position-2.first =
     sym (c.position-in-None.ensures.words
-    ∙ (ap (λ (k : Heap). place_of (pairs_at k c.args.from) key) c.position.ensures.heap
-    ∙ ap (λ (k : Heap). place_of (pairs_at k c.args.from) key) c.pair.ensures.heap))
+    ∙ (ap (λ (k : Heap). place_of (pairs_at k c.args.merge.from) key) c.position.ensures.heap
+    ∙ ap (λ (k : Heap). place_of (pairs_at k c.args.merge.from) key) c.pair.ensures.heap))
     ∙ c.in-Some-position-2.is in
-    count-by h c.requires.sound c.args.to c.args.from c.requires.target c.requires.source
+    count-by h c.requires.sound c.args.merge.to c.args.merge.from c.requires.target c.requires.source
     (key, c.in-Some.field-0-1) c.in-Some.ensures.held.0 c.in-Some-position-2.first c.args.place read
     to from
 
@@ -44,18 +44,18 @@ pub returns-in-None-position-clause-answer : goal.returns-in-None-position-claus
 returns-in-None-position-clause-answer g c =
     let h = g.M.Memory.heap c.args.memory.now in
     let key = c.in-Some.key in
-    let read : slice_get (pairs_at h c.args.from) c.args.place ≡ Some (key, c.in-Some.field-0-1) =
+    let read : slice_get (pairs_at h c.args.merge.from) c.args.place ≡ Some (key, c.in-Some.field-0-1) =
     sym c.pair.ensures.words ∙ c.in-Some.is in
-    let to : place_of (pairs_at h c.args.to) key ≡ None =
+    let to : place_of (pairs_at h c.args.merge.to) key ≡ None =
     sym (c.position.ensures.words
-    ∙ ap (λ (k : Heap). place_of (pairs_at k c.args.to) key) c.pair.ensures.heap)
+    ∙ ap (λ (k : Heap). place_of (pairs_at k c.args.merge.to) key) c.pair.ensures.heap)
     ∙ c.in-None.is in
-    let from : place_of (pairs_at h c.args.from) key ≡ None =
+    let from : place_of (pairs_at h c.args.merge.from) key ≡ None =
     sym (c.position-in-None.ensures.words
-    ∙ (ap (λ (k : Heap). place_of (pairs_at k c.args.from) key) c.position.ensures.heap
-    ∙ ap (λ (k : Heap). place_of (pairs_at k c.args.from) key) c.pair.ensures.heap))
+    ∙ (ap (λ (k : Heap). place_of (pairs_at k c.args.merge.from) key) c.position.ensures.heap
+    ∙ ap (λ (k : Heap). place_of (pairs_at k c.args.merge.from) key) c.pair.ensures.heap))
     ∙ c.in-None-position.is in
-    count-new (pairs_at h c.args.to) (pairs_at h c.args.from) c.args.place
-    (key, c.in-Some.field-0-1) read (place-neither key (pairs_at h c.args.to)
-    (take c.args.place (pairs_at h c.args.from)) to
-    (none-anywhere key (pairs_at h c.args.from) c.args.place from))
+    count-new (pairs_at h c.args.merge.to) (pairs_at h c.args.merge.from) c.args.place
+    (key, c.in-Some.field-0-1) read (place-neither key (pairs_at h c.args.merge.to)
+    (take c.args.place (pairs_at h c.args.merge.from)) to
+    (none-anywhere key (pairs_at h c.args.merge.from) c.args.place from))

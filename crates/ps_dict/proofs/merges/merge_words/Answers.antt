@@ -11,9 +11,9 @@ use Rattle.ps_dict.proofs.merges.merge_words.Goals as goal
 pub returns-in_err-merge_pair-clause-unchanged : goal.returns-in_err-merge_pair-clause-unchanged
 returns-in_err-merge_pair-clause-unchanged g c =
     let h = g.M.Memory.heap c.args.memory.now in
-    let more : c.length-more.result ≡ count_at h c.args.from = c.length-more.ensures.words
-    ∙ ap (λ (k : Heap). count_at k c.args.from) c.length-count.ensures.heap in
-    let long = merged-long h c.requires.sound c.args.to c.args.from c.requires.target
+    let more : c.length-more.result ≡ count_at h c.args.merge.from = c.length-more.ensures.words
+    ∙ ap (λ (k : Heap). count_at k c.args.merge.from) c.length-count.ensures.heap in
+    let long = merged-long h c.requires.sound c.args.merge.to c.args.merge.from c.requires.target
     c.requires.source c.loop-place.place in
     let words = ap length c.loop-place.invariant.words in
     let room = c.loop-place.invariant.room in
@@ -23,9 +23,9 @@ returns-in_err-merge_pair-clause-unchanged g c =
 pub returns-in_err-merge_pair-clause-full : goal.returns-in_err-merge_pair-clause-full
 returns-in_err-merge_pair-clause-full g c =
     let h = g.M.Memory.heap c.args.memory.now in
-    let more : c.length-more.result ≡ count_at h c.args.from = c.length-more.ensures.words
-    ∙ ap (λ (k : Heap). count_at k c.args.from) c.length-count.ensures.heap in
-    let long = merged-long h c.requires.sound c.args.to c.args.from c.requires.target
+    let more : c.length-more.result ≡ count_at h c.args.merge.from = c.length-more.ensures.words
+    ∙ ap (λ (k : Heap). count_at k c.args.merge.from) c.length-count.ensures.heap in
+    let long = merged-long h c.requires.sound c.args.merge.to c.args.merge.from c.requires.target
     c.requires.source c.loop-place.place in
     let words = ap length c.loop-place.invariant.words in
     let room = c.loop-place.invariant.room in
@@ -35,9 +35,9 @@ returns-in_err-merge_pair-clause-full g c =
 pub returns-clause-words : goal.returns-clause-words
 returns-clause-words g c =
     let h = g.M.Memory.heap c.args.memory.now in
-    let more : c.length-more.result ≡ count_at h c.args.from = c.length-more.ensures.words
-    ∙ ap (λ (k : Heap). count_at k c.args.from) c.length-count.ensures.heap in
-    let all = length-pairs h c.args.from c.requires.source c.requires.sound in
+    let more : c.length-more.result ≡ count_at h c.args.merge.from = c.length-more.ensures.words
+    ∙ ap (λ (k : Heap). count_at k c.args.merge.from) c.length-count.ensures.heap in
+    let all = length-pairs h c.args.merge.from c.requires.source c.requires.sound in
     c.loop-place.invariant.words
-    ∙ ap (λ ps. words_of_pairs (merged (pairs_at h c.args.to) ps))
-    (take_all c.loop-place.place (pairs_at h c.args.from) (omega (arith, more, all)))
+    ∙ ap (λ ps. words_of_pairs (merged (pairs_at h c.args.merge.to) ps))
+    (take_all c.loop-place.place (pairs_at h c.args.merge.from) (omega (arith, more, all)))

@@ -12,7 +12,7 @@ invariant-loop-place g l =
       heap : g.M.Memory.heap l.memory ≡ h;
       grants : g.M.Memory.grants l.memory ≡ g.M.Memory.grants l.fn.memory;
       words : l.scratch.items ≡ words_of_pairs
-          (merged (pairs_at h l.to) (take l.place (pairs_at h l.from)));
-      room : 2 * (count_at h l.to + count_at h l.from) ≤ vec_capacity l.scratch;
+          (merged (pairs_at h l.merge.to) (take l.place (pairs_at h l.merge.from)));
+      room : 2 * (count_at h l.merge.to + count_at h l.merge.from) ≤ vec_capacity l.scratch;
       kept : vec_capacity l.fn.scratch ≤ vec_capacity l.scratch;
     }

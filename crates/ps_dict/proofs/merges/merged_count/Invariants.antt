@@ -10,5 +10,5 @@ invariant-loop-place g l =
     record {
       heap : g.M.Memory.heap l.memory ≡ h;
       grants : g.M.Memory.grants l.memory ≡ g.M.Memory.grants l.fn.memory;
-      count : l.count ≡ length (merged (pairs_at h l.to) (take l.place (pairs_at h l.from)));
+      count : l.count ≡ length (merged (pairs_at h l.merge.to) (take l.place (pairs_at h l.merge.from)));
     }

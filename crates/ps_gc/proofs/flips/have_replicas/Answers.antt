@@ -1,4 +1,4 @@
-use Rattle.std.proofs.Common.{rules, ◌≡◌, ◌+◌, length, refl, ◌∙◌, arith}
+use Rattle.std.proofs.Common.{rules, ◌+◌, length, ◌∙◌, arith}
 use Rattle.std.proofs.lemmas.Grind.{common_steps}
 use Rattle.ps_table.proofs.Looking.{more_looks}
 use Rattle.ps_gc.proofs.flips.have_replicas.Goals as goal

@@ -14,23 +14,23 @@ use Rattle.ps_ops_control.proofs.ahead.for_ahead.Goals as goal
 
 pub returns-then-is_past-clause-turns : goal.returns-then-is_past-clause-turns
 returns-then-is_past-clause-turns c =
-    let control_fits : SFits w64 c.args.control = search rules in
-    let increment_fits : SFits w32 c.args.increment = search rules in
-    let limit_fits : SFits w32 c.args.limit = search rules in
+    let control_fits : SFits w64 c.args.state.control = search rules in
+    let increment_fits : SFits w32 c.args.state.increment = search rules in
+    let limit_fits : SFits w32 c.args.state.limit = search rules in
     let past = simp to_z-of_z at c.is_past.ensures in
     λ h size ready.
     rw (c.leave.ensures)
-    (for_ends h size _ _ ready c.args.control c.args.increment c.args.limit c.args.body
+    (for_ends h size _ _ ready c.args.state.control c.args.state.increment c.args.state.limit c.args.state.body
     (sym c.requires.top) (sym past ∙ c.if-is_past.true))
 
 pub returns-clause-turns : goal.returns-clause-turns
 returns-clause-turns c =
     let operands = c.args.operands.now in
     let frames = c.args.frames.now in
-    let body = c.args.body in
-    let control = c.args.control in
-    let increment = c.args.increment in
-    let limit = c.args.limit in
+    let body = c.args.state.body in
+    let control = c.args.state.control in
+    let increment = c.args.state.increment in
+    let limit = c.args.state.limit in
     let control_fits : SFits w64 control = search rules in
     let increment_fits : SFits w32 increment = search rules in
     let limit_fits : SFits w32 limit = search rules in

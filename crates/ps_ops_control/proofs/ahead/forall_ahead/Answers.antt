@@ -12,9 +12,9 @@ pub returns-clause-turns : goal.returns-clause-turns
 returns-clause-turns c =
     let operands = c.args.operands.now in
     let frames = c.args.frames.now in
-    let over = c.args.over in
-    let at = c.args.at in
-    let body = c.args.body in
+    let over = c.args.state.over in
+    let at = c.args.state.at in
+    let body = c.args.state.body in
     let top = sym c.requires.top in
     λ h size ready is.
     rw (c.push.ensures, c.set_place.ensures)

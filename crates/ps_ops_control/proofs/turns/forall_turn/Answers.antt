@@ -6,13 +6,13 @@ use Rattle.ps_ops_control.proofs.turns.forall_turn.Goals as goal
 
 pub returns-in_default-clause-turns : goal.returns-in_default-clause-turns
 returns-in_default-clause-turns c =
-    λ h size ready is. rw (c.leave.ensures) (forall_ends h size _ _ ready c.args.over c.args.at c.args.body
-    (sym c.requires.top) (subst (IsPushed h c.args.over c.args.at) c.in_default.is is))
+    λ h size ready is. rw (c.leave.ensures) (forall_ends h size _ _ ready c.args.state.over c.args.state.at c.args.state.body
+    (sym c.requires.top) (subst (IsPushed h c.args.state.over c.args.state.at) c.in_default.is is))
 
 pub returns-clause-turns : goal.returns-clause-turns
 returns-clause-turns c =
     λ h size ready is. c.go_on.ensures.turns _ h size ready
-    (forall_held h size _ _ ready c.args.over c.args.at c.args.body (sym c.requires.top) _
-    (subst (IsPushed h c.args.over c.args.at) c.in-Some.is is))
-    (forall_is h size _ _ ready c.args.over c.args.at c.args.body (sym c.requires.top) _
-    (subst (IsPushed h c.args.over c.args.at) c.in-Some.is is))
+    (forall_held h size _ _ ready c.args.state.over c.args.state.at c.args.state.body (sym c.requires.top) _
+    (subst (IsPushed h c.args.state.over c.args.state.at) c.in-Some.is is))
+    (forall_is h size _ _ ready c.args.state.over c.args.state.at c.args.state.body (sym c.requires.top) _
+    (subst (IsPushed h c.args.state.over c.args.state.at) c.in-Some.is is))

@@ -9,5 +9,5 @@ returns-then-length-le-CAPACITY_LIMIT-clause-possible g c =
     let few = c.if-length-le-CAPACITY_LIMIT.true in
     let one = c.length.ensures.words in
     let two = rw c.length.ensures.heap at c.length-then-not-refused.ensures.words in
-    planned-few (g.M.Memory.heap c.args.memory.now) c.requires.sound c.args.to c.args.from
+    planned-few (g.M.Memory.heap c.args.memory.now) c.requires.sound c.args.merge.to c.args.merge.from
     c.requires.target c.requires.source (omega (arith, few, one, two))

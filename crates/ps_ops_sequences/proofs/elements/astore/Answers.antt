@@ -1,7 +1,7 @@
 -- All elements of an array.
-use Rattle.ps_ops_state.proofs.Asking.{astore_unasked}
 use Rattle.ps_ops_state.proofs.Alike.{came_acts}
-use Rattle.ps_ops_state.proofs.Changing.{changes_acts, astore_lasts}
+use Rattle.ps_ops_state.proofs.Changing.{changes_acts}
+use Rattle.ps_ops_sequences.proofs.ArrayPuts.{astore_unasked, astore_lasts}
 use Rattle.ps_ops_sequences.proofs.elements.astore.Goals as goal
 
 pub returns : goal.returns

@@ -1,8 +1,8 @@
 -- By the type of what is written.
 use Rattle.std.proofs.Common.{sym, ◌∙◌}
-use Rattle.ps_ops_state.proofs.Asking.{put_unasked}
 use Rattle.ps_ops_state.proofs.Alike.{came_acts, effect_acts}
-use Rattle.ps_ops_state.proofs.Changing.{changes_acts, put_lasts}
+use Rattle.ps_ops_state.proofs.Changing.{changes_acts}
+use Rattle.ps_ops_sequences.proofs.ArrayPuts.{put_unasked, put_lasts}
 use Rattle.ps_ops_sequences.proofs.ElementRows.{put_into_array, put_into_string}
 use Rattle.ps_ops_sequences.proofs.StringPuts.{string_put_unasked, string_put_lasts}
 use Rattle.ps_ops_sequences.proofs.elements.put_into_sequence.Goals as goal

@@ -45,20 +45,22 @@ are_asked g c asked is = (
 )
 
 is_fault : (g : givens.Over) (c : In-Ok g) (err : Told)
-    → IsFileFault (g.F.FileSet.contents c.args.files.now) (names_of c.in-Ok.options)
-    c.in-Ok.options.explore (g.X.Telling.told c.args.err.now) err
+    → IsFileFault (g.F.FileSet.contents c.args.outside.now.files) (names_of c.in-Ok.options)
+    c.in-Ok.options.explore (g.X.Telling.told c.args.outside.now.err) err
     ⊎ ¬ IsWithin (config_in c.in-Ok.options)
     → ((many : Option ℕ)
     × IsOptional (codes "explore") (map (λ word. word.now) c.args.words.now) many
-    × IsFileFault (g.F.FileSet.contents c.args.files.now)
-    (names_in (map (λ word. word.now) c.args.words.now)) many (g.X.Telling.told c.args.err.now) err)
+    × IsFileFault (g.F.FileSet.contents c.args.outside.now.files)
+    (names_in (map (λ word. word.now) c.args.words.now)) many
+    (g.X.Telling.told c.args.outside.now.err) err)
     ⊎ AreOutOfRange (map (λ word. word.now) c.args.words.now)
 is_fault g c err fault = elim fault [
   | inl file ↦ inl (
     c.in-Ok.options.explore,
     c.in-Ok.ensures.explore,
-    subst (λ (names : Names). IsFileFault (g.F.FileSet.contents c.args.files.now) names
-        c.in-Ok.options.explore (g.X.Telling.told c.args.err.now) err) (same_names g c) file,
+    subst (λ (names : Names). IsFileFault (g.F.FileSet.contents c.args.outside.now.files) names
+        c.in-Ok.options.explore (g.X.Telling.told c.args.outside.now.err) err) (same_names g c)
+        file,
   )
   | inr outside ↦ inr (record {
     config = config_in c.in-Ok.options;
@@ -87,8 +89,8 @@ returns-in-None-clause-files g c = λ name other.
 pub returns-in-None-clause-unread : goal.returns-in-None-clause-unread
 returns-in-None-clause-unread g c = λ none.
     let at = (goal.at.returns-in-None-clause-unread g c).In-Ok in
-    let old = g.X.Telling.told c.args.err.now in
-    let new = g.X.Telling.told c.run-status.new.err in
+    let old = g.X.Telling.told c.args.outside.now.err in
+    let new = g.X.Telling.told c.run-status.new.outside.err in
     let more : (fault : ReadFault)
     → IsUnread (names_of c.in-Ok.options) fault c.run-status.result.0 old new
     → (told : Status) × (c.number_of.result ≡ driving.number_of told)
@@ -116,13 +118,13 @@ pub returns-in-Some-clause-files : goal.returns-in-Some-clause-files
 returns-in-Some-clause-files g c = λ name other.
     c.explore-status.ensures.files name (λ is.
     other c.in-Ok.options.explore c.in-Ok.ensures.explore
-    (record_named _ _ _ _ name c.in-Ok.ensures.record_file (sym c.in-Some.is) is))
+    (record_named _ _ _ _ name c.in-Ok.ensures.record_file refl is))
 
 pub returns-in-Some-clause-unread : goal.returns-in-Some-clause-unread
 returns-in-Some-clause-unread g c = λ none.
     let at = (goal.at.returns-in-Some-clause-unread g c).In-Ok in
-    let old = g.X.Telling.told c.args.err.now in
-    let new = g.X.Telling.told c.explore-status.new.err in
+    let old = g.X.Telling.told c.args.outside.now.err in
+    let new = g.X.Telling.told c.explore-status.new.outside.err in
     let more : (fault : ReadFault)
     → IsUnread (names_of c.in-Ok.options) fault c.explore-status.result old new
     → (told : Status) × (c.number_of-in-Some.result ≡ driving.number_of told)
@@ -139,9 +141,9 @@ returns-in-Some-clause-unread g c = λ none.
 
 pub returns-in-Err-clause-run : goal.returns-in-Err-clause-run
 returns-in-Err-clause-run g c = (
-  c.refuse.result,
+  c.refuse-status.result,
   c.number_of-in-Err.ensures,
-  elim c.refuse.ensures [
+  elim c.refuse-status.ensures [
     | inl memory ↦ inr (inl (memory.0, inl refl, refl, memory.1))
     | inr usage ↦
         inl (usage.0, refl, refl, inl (faulty _ c.in-Err.error c.in-Err.ensures.fault usage.1))

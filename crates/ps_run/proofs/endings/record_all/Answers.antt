@@ -14,11 +14,13 @@ loop-number-preserved g c =
     let prefix = c.in-Some.prefix.now in
     record {
       within = omega (arith, c.loop-number-test.true);
-      recorded = recorded_more (g.F.FileSet.contents c.loop-number.files)
-          (g.F.FileSet.contents c.record_ending.new.files) prefix endings count c.requires.few
+      recorded = recorded_more (g.F.FileSet.contents c.loop-number.outside.files)
+          (g.F.FileSet.contents c.record_ending.new.outside.files) prefix endings count
+          c.requires.few
           c.loop-number-test.true c.loop-number.invariant.recorded c.record_ending.ensures.others
           (λ default.
-          subst (λ (entries : _). IsRecorded (g.F.FileSet.contents c.record_ending.new.files)
+          subst (λ (entries : _). IsRecorded
+          (g.F.FileSet.contents c.record_ending.new.outside.files)
           (Some (numbered prefix (count + 1))) entries)
           (c.entries-schedule.ensures ∙ ap (λ (r : Report). r.schedule.items)
           (get_or_default endings count c.index-endings-number.result default
@@ -43,11 +45,12 @@ returns-in_err-record_ending-clause-unrecorded g c =
     rw (same, c.in-Some.is) (
       count,
       c.loop-number-test.true,
-      recorded_kept (g.F.FileSet.contents c.loop-number.files)
-          (g.F.FileSet.contents c.record_ending.new.files) prefix endings count c.requires.few
+      recorded_kept (g.F.FileSet.contents c.loop-number.outside.files)
+          (g.F.FileSet.contents c.record_ending.new.outside.files) prefix endings count
+          c.requires.few
           c.loop-number-test.true c.loop-number.invariant.recorded c.record_ending.ensures.others,
       subst (λ (old : Told). TellsUnwritten (Some (numbered prefix (count + 1)))
-          c.in_err-record_ending.field-0.0 old (g.X.Telling.told c.record_ending.new.err))
+          c.in_err-record_ending.field-0.0 old (g.X.Telling.told c.record_ending.new.outside.err))
           (ap g.X.Telling.told c.loop-number.invariant.told)
           c.in_err-record_ending.ensures.unrecorded,
     )

@@ -6,13 +6,13 @@ use Rattle.ps_run.proofs.endings.record_all.Given as goal
 abbrev pub invariant-loop-number : goal.invariant-loop-number
 invariant-loop-number g l = record {
   within : l.number ≤ length l.endings;
-  recorded : AreRecorded (g.F.FileSet.contents l.files) (Some l.prefix) l.endings l.number;
-  told : l.err ≡ l.fn.err;
+  recorded : AreRecorded (g.F.FileSet.contents l.outside.files) (Some l.prefix) l.endings l.number;
+  told : l.outside.err ≡ l.fn.outside.err;
   others : (other : List ℕ) → ¬ IsRecordName (names_of l.options).recorded
       (Some (length l.endings)) other
-      → g.F.FileSet.contents l.files other ≡ g.F.FileSet.contents l.fn.files other;
-  reads : g.F.FileSet.last_fault l.files ≡ g.F.FileSet.last_fault l.fn.files;
-  writes : g.F.FileSet.is_unwritten l.files ≡ g.F.FileSet.is_unwritten l.fn.files;
+      → g.F.FileSet.contents l.outside.files other ≡ g.F.FileSet.contents l.fn.outside.files other;
+  reads : g.F.FileSet.last_fault l.outside.files ≡ g.F.FileSet.last_fault l.fn.outside.files;
+  writes : g.F.FileSet.is_unwritten l.outside.files ≡ g.F.FileSet.is_unwritten l.fn.outside.files;
 }
 
 abbrev pub decreases-loop-number : goal.decreases-loop-number

@@ -17,7 +17,7 @@ returns-in-Err-Unread-clause-unread g c first =
     let replay : option_map {T = Bor (List ℕ)} {U = List ℕ} (λ name. name.now)
     c.args.options.now.replay_file ≡ Some c.in-Some.name.now = search rules in
     subst (λ last. IfSome last (λ why. IsUnread (names_of c.args.options.now) why
-    c.tell_unread-in-Err-Unread.result (g.X.Telling.told c.args.err.now)
+    c.tell_unread-in-Err-Unread.result (g.X.Telling.told c.args.outside.now.err)
     (g.X.Telling.told c.tell_unread-in-Err-Unread.new.err))) (sym told.0) (record {
       is = c.tell_unread-in-Err-Unread.ensures.status;
       name = c.in-Some.name.now;
@@ -27,9 +27,9 @@ returns-in-Err-Unread-clause-unread g c first =
 
 pub returns-in-Err-Unread-clause-fault : goal.returns-in-Err-Unread-clause-fault
 returns-in-Err-Unread-clause-fault g c =
-    let contents = g.F.FileSet.contents c.args.files.now in
+    let contents = g.F.FileSet.contents c.args.outside.now.files in
     let name = c.in-Some.name.now in
-    let err = g.X.Telling.told c.args.err.now in
+    let err = g.X.Telling.told c.args.outside.now.err in
     let new = g.X.Telling.told c.tell_unread-in-Err-Unread.new.err in
     let result = c.tell_unread-in-Err-Unread.result in
     let replay : option_map {T = Bor (List ℕ)} {U = List ℕ} (λ name. name.now)
@@ -46,10 +46,10 @@ returns-in-Err-Unread-clause-fault g c =
 
 pub returns-in-Err-Bad-BadLine-clause-fault : goal.returns-in-Err-Bad-BadLine-clause-fault
 returns-in-Err-Bad-BadLine-clause-fault g c =
-    let contents = g.F.FileSet.contents c.args.files.now in
+    let contents = g.F.FileSet.contents c.args.outside.now.files in
     let name = c.in-Some.name.now in
     let line = c.in-Err-Bad-BadLine.line in
-    let err = g.X.Telling.told c.args.err.now in
+    let err = g.X.Telling.told c.args.outside.now.err in
     let new = g.X.Telling.told c.tell_number.new.err in
     let replay : option_map {T = Bor (List ℕ)} {U = List ℕ} (λ name. name.now)
     c.args.options.now.replay_file ≡ Some name = search rules in

@@ -14,7 +14,7 @@ use Rattle.ps_step.proofs.runs.run_text.Goals as goal
 pub loop-made-init : goal.loop-made-init
 loop-made-init g c =
     let l : Lent = lent_of g.M.Memory.heap g.M.Memory.grants c.args.context.now c.args.runtime.now in
-    let top : l.frames ≡ Text c.args.source c.args.at ∷ drop 1 l.frames =
+    let top : l.frames ≡ Text c.args.cursor.source c.args.cursor.at ∷ drop 1 l.frames =
     first_split _ _ (sym c.requires.top) in
     rw (c.read_source.ensures.heap, c.read_source.ensures.grants) (record {
       within = omega arith;
@@ -33,7 +33,7 @@ loop-made-preserved g c =
           c.loop-made.invariant.framed;
       window = rw c.in-Done.is at c.read_token.ensures.window;
       makes = read_more g.O.Operate.asks c.args.slot c.loop-made.made _
-          (lent_of g.M.Memory.heap g.M.Memory.grants c.loop-made.context c.loop-made.runtime) c.args.source c.loop-made.place
+          (lent_of g.M.Memory.heap g.M.Memory.grants c.loop-made.context c.loop-made.runtime) c.loop-made.place.source c.loop-made.place.at
           c.loop-made.invariant.makes _ takes.1;
     }
 
@@ -44,7 +44,7 @@ returns-in-Turned g c = record {
   more = λ none. omega (arith, c.with_turn.ensures.more none);
   runs = c.with_turn.ensures.runs g.O.Operate.asks c.args.slot _ _
       (read_behind g.O.Operate.asks c.args.slot c.loop-made.made _
-      (lent_of g.M.Memory.heap g.M.Memory.grants c.loop-made.context c.loop-made.runtime) c.args.source c.loop-made.place
+      (lent_of g.M.Memory.heap g.M.Memory.grants c.loop-made.context c.loop-made.runtime) c.loop-made.place.source c.loop-made.place.at
       c.loop-made.invariant.makes _ _ (rw c.in-Turned.is at c.read_token.ensures.takes)) refl;
 }
 

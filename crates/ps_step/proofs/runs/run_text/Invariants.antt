@@ -10,10 +10,10 @@ abbrev pub invariant-loop-made : goal.invariant-loop-made
 invariant-loop-made g l = record {
   within : l.made ≤ l.most;
   framed : 1 ≤ length l.context.frames;
-  window : IsWindow (g.M.Memory.heap l.runtime.memory) l.source l.start l.text.items;
+  window : IsWindow (g.M.Memory.heap l.runtime.memory) l.place.source l.window;
   makes : HasRun l.made
       (lent_of g.M.Memory.heap g.M.Memory.grants l.fn.context l.fn.runtime)
-      (read_to l.source l.place (lent_of g.M.Memory.heap g.M.Memory.grants l.context l.runtime));
+      (read_to l.place.source l.place.at (lent_of g.M.Memory.heap g.M.Memory.grants l.context l.runtime));
 }
 
 abbrev pub decreases-loop-made : goal.decreases-loop-made

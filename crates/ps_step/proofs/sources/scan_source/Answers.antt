@@ -14,27 +14,27 @@ returns-in-Program-clause-token g c =
     let program = c.args.program.now in
     subst (λ (source : Source). IsTaken
     (IsSourceAt (g.M.Memory.heap c.args.memory.now) (length program) source)
-    (bytes_scanned source program c.args.list.now.items) c.next_token.result) (sym c.in-Program.is)
-    (taken program c.args.at (length program) c.next_token.result (omega arith)
+    (bytes_scanned source program c.args.window.now.bytes.items) c.next_token.result) (sym c.in-Program.is)
+    (taken program c.args.cursor.at (length program) c.next_token.result (omega arith)
     c.next_token.ensures.answer c.next_token.ensures.place)
 
 pub returns-in-None-clause-scanned : goal.returns-in-None-clause-scanned
 returns-in-None-clause-scanned g c =
     let heap = g.M.Memory.heap c.args.memory.now in
-    subst (λ (source : Source). Scans heap source c.args.at c.args.program.now
-    c.scan_string.new.list.items c.scan_string.result) (sym c.in-Text.is)
+    subst (λ (source : Source). Scans heap source c.args.cursor.at c.args.program.now
+    c.scan_string.new.window.bytes.items c.scan_string.result) (sym c.in-Text.is)
     c.scan_string.ensures.scanned
 
 pub returns-in-None-clause-token : goal.returns-in-None-clause-token
 returns-in-None-clause-token g c =
     let heap = g.M.Memory.heap c.args.memory.now in
     let size = length c.args.program.now in
-    let held = subst (λ (source : Source). IsSourceAt heap size source c.args.at) c.in-Text.is
+    let held = subst (λ (source : Source). IsSourceAt heap size source c.args.cursor.at) c.in-Text.is
     c.requires.place in
     subst (λ (source : Source). IsTaken (IsSourceAt heap size source)
-    (bytes_scanned source c.args.program.now c.scan_string.new.list.items) c.scan_string.result)
+    (bytes_scanned source c.args.program.now c.scan_string.new.window.bytes.items) c.scan_string.result)
     (sym c.in-Text.is)
-    (taken_at c.scan_string.new.list.items (λ end. end ≤ c.in-Text.part.length)
+    (taken_at c.scan_string.new.window.bytes.items (λ end. end ≤ c.in-Text.part.length)
     (IsSourceAt heap size (TextOf c.in-Text.part)) c.scan_string.result
     (λ end below. (held.0, below)) c.scan_string.ensures.token)
 
@@ -42,10 +42,10 @@ pub returns-in-Some-clause-scanned : goal.returns-in-Some-clause-scanned
 returns-in-Some-clause-scanned g c =
     let heap = g.M.Memory.heap c.args.memory.now in
     let part = c.in-Text.part in
-    let window = subst (λ (source : Source). IsWindow heap source c.args.start.now
-    c.args.list.now.items) c.in-Text.is c.requires.window in
-    subst (λ (source : Source). Scans heap source c.args.at c.args.program.now
-    c.args.list.now.items (Ok (Some c.in-Some.token))) (sym c.in-Text.is)
-    (in_window heap part c.args.at c.args.program.now c.args.start.now c.args.list.now.items
-    window c.in-Some.token
-    (rw (c.as_slice.ensures.value, c.in-Some.is) at c.scan_read.ensures.scanned))
+    let window = c.args.window.now in
+    let read = subst (λ (source : Source). IsWindow heap source window) c.in-Text.is
+    c.requires.window in
+    subst (λ (source : Source). Scans heap source c.args.cursor.at c.args.program.now
+    window.bytes.items (Ok (Some c.in-Some.token))) (sym c.in-Text.is)
+    (in_window heap part c.args.cursor.at c.args.program.now window read c.in-Some.token
+    (rw c.in-Some.is at c.scan_read.ensures.scanned))

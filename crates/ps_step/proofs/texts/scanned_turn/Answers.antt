@@ -24,24 +24,24 @@ fault_turn-requires-clause-fault g c = λ s shown. rw c.in-Err.is at (c.requires
 pub returns-in-Ok-None : goal.returns-in-Ok-None
 returns-in-Ok-None g c =
     let l : Lent = lent_of g.M.Memory.heap g.M.Memory.grants c.args.context.now c.args.runtime.now in
-    let top : l.frames ≡ Text c.args.source.now c.args.at ∷ drop 1 l.frames =
+    let top : l.frames ≡ Text c.args.cursor.now.source c.args.cursor.now.at ∷ drop 1 l.frames =
     first_split _ _ (sym c.requires.top) in
     rw c.drop_top.ensures.frames
     (goes_on l l.operands (drop 1 l.frames)
-    (text_asks g.O.Operate.asks c.args.source.now c.args.at (drop 1 l.frames)) running_turn
+    (text_asks g.O.Operate.asks c.args.cursor.now.source c.args.cursor.now.at (drop 1 l.frames)) running_turn
     c.args.attempt
     (below_good l c.requires.good)
-    (λ s shown. exhausted_is l c.args.source.now c.args.at (drop 1 l.frames) top s
+    (λ s shown. exhausted_is l c.args.cursor.now.source c.args.cursor.now.at (drop 1 l.frames) top s
     (rw (c.in-Ok-None.is, c.in-Ok-None.field-0-is) at (c.requires.scanned s shown))) c.requires.good)
 
 pub returns-in-Ok-Some : goal.returns-in-Ok-Some
 returns-in-Ok-Some g c =
     let l : Lent = lent_of g.M.Memory.heap g.M.Memory.grants c.args.context.now c.args.runtime.now in
-    listed_turns (λ (m : Lent) (s : Store). scanned_asks g.O.Operate.asks c.args.source.now
-    (drop 1 l.frames) (scan_at c.args.source.now c.args.at m s) m s)
-    (text_asks g.O.Operate.asks c.args.source.now c.args.at (drop 1 l.frames)) running_turn
+    listed_turns (λ (m : Lent) (s : Store). scanned_asks g.O.Operate.asks c.args.cursor.now.source
+    (drop 1 l.frames) (scan_at c.args.cursor.now.source c.args.cursor.now.at m s) m s)
+    (text_asks g.O.Operate.asks c.args.cursor.now.source c.args.cursor.now.at (drop 1 l.frames)) running_turn
     c.args.attempt
     c.take_token.result l _
-    (λ s shown. source_records l _ (source_of (birth_at l.heap) c.args.source.now) _)
-    (λ s shown. source_rooms l _ (source_of (birth_at l.heap) c.args.source.now) _)
+    (λ s shown. source_records l _ (source_of (birth_at l.heap) c.args.cursor.now.source) _)
+    (λ s shown. source_rooms l _ (source_of (birth_at l.heap) c.args.cursor.now.source) _)
     c.take_token.ensures

@@ -9,7 +9,7 @@ returns-in-Some-clause-takes g c =
     let l : Lent = lent_of g.M.Memory.heap g.M.Memory.grants c.args.context.now c.args.runtime.now in
     let reads = c.literal_ahead.ensures.reads g.O.Operate.asks l.heap l.dictionaries in (
       refl,
-      read_taken g.O.Operate.asks c.args.source.now c.args.at l c.requires.good c.args.text.now
+      read_taken g.O.Operate.asks c.args.cursor.now.source c.args.cursor.now.at l c.requires.good c.args.text.now
           c.args.scanned c.requires.scanned c.requires.token c.args.attempt
           c.literal_ahead.new.operands c.in-Some.end (rw c.in-Some.is at reads),
     )

@@ -11,31 +11,31 @@ use Rattle.ps_step.proofs.texts.take_token.Goals as goal
 pub do_token-requires-clause-good : goal.do_token-requires-clause-good
 do_token-requires-clause-good g c =
     let l : Lent = lent_of g.M.Memory.heap g.M.Memory.grants c.args.context.now c.args.runtime.now in
-    let top : l.frames ≡ Text c.args.source c.args.at ∷ drop 1 l.frames =
+    let top : l.frames ≡ Text c.args.cursor.source c.args.cursor.at ∷ drop 1 l.frames =
     first_split _ _ (sym c.requires.top) in
     rw c.replace_top.ensures
-    (behind_good l c.args.source c.args.at (drop 1 l.frames) top
-    (token_of c.args.text.now c.args.kind.now) c.args.end c.requires.scanned g.O.Operate.asks
+    (behind_good l c.args.cursor.source c.args.cursor.at (drop 1 l.frames) top
+    (token_of c.args.text.now c.args.token.now.kind) c.args.token.now.end c.requires.scanned g.O.Operate.asks
     c.requires.further c.requires.good c.args.attempt)
 
 pub returns-in-Ok : goal.returns-in-Ok
 returns-in-Ok g c =
     let l : Lent = lent_of g.M.Memory.heap g.M.Memory.grants c.args.context.now c.args.runtime.now in
-    let top : l.frames ≡ Text c.args.source c.args.at ∷ drop 1 l.frames =
+    let top : l.frames ≡ Text c.args.cursor.source c.args.cursor.at ∷ drop 1 l.frames =
     first_split _ _ (sym c.requires.top) in
-    token_goes l c.args.source c.args.at (drop 1 l.frames) top
-    (token_of c.args.text.now c.args.kind.now) c.args.end c.requires.scanned g.O.Operate.asks
+    token_goes l c.args.cursor.source c.args.cursor.at (drop 1 l.frames) top
+    (token_of c.args.text.now c.args.token.now.kind) c.args.token.now.end c.requires.scanned g.O.Operate.asks
     c.requires.further c.requires.good c.args.attempt c.in-Ok.turned _
     (rw (c.replace_top.ensures, c.in-Ok.is) at c.do_token.ensures)
 
 pub returns-in-Err : goal.returns-in-Err
 returns-in-Err g c =
     let l : Lent = lent_of g.M.Memory.heap g.M.Memory.grants c.args.context.now c.args.runtime.now in
-    let top : l.frames ≡ Text c.args.source c.args.at ∷ drop 1 l.frames =
+    let top : l.frames ≡ Text c.args.cursor.source c.args.cursor.at ∷ drop 1 l.frames =
     first_split _ _ (sym c.requires.top) in
     let turns = rw (c.replace_top.ensures, c.in-Err.is) at c.do_token.ensures in
     rw (c.replace_top-in-Err.ensures
-    ∙ (ap (λ (fs : List Frame). Text c.args.source c.args.at ∷ drop 1 fs) turns.framed ∙ sym top))
-    (token_unmade l c.args.source c.args.at (drop 1 l.frames) top
-    (token_of c.args.text.now c.args.kind.now) c.args.end c.requires.scanned g.O.Operate.asks
+    ∙ (ap (λ (fs : List Frame). Text c.args.cursor.source c.args.cursor.at ∷ drop 1 fs) turns.framed ∙ sym top))
+    (token_unmade l c.args.cursor.source c.args.cursor.at (drop 1 l.frames) top
+    (token_of c.args.text.now c.args.token.now.kind) c.args.token.now.end c.requires.scanned g.O.Operate.asks
     c.requires.further c.requires.good c.args.attempt c.in-Err.reason _ turns)

@@ -1,5 +1,5 @@
 -- What was scanned is that of the topmost frame.
-use Rattle.std.proofs.Common.{◌≡◌, ◌∷◌, drop, sym, subst}
+use Rattle.std.proofs.Common.{◌≡◌, ◌∷◌, drop, refl, sym, subst}
 use Rattle.ps_ops_operands.proofs.Operands.{first_split}
 use Rattle.ps_ops_control.specs.declared.frames.Frame.TheVariants.{Text}
 use Rattle.ps_ops_control.specs.Frames.{AreFramesWithin}
@@ -10,7 +10,7 @@ use Rattle.ps_step.proofs.texts.text_turn.Goals as goal
 pub scanned_turn-requires-clause-scanned : goal.scanned_turn-requires-clause-scanned
 scanned_turn-requires-clause-scanned g c =
     let l : Lent = lent_of g.M.Memory.heap g.M.Memory.grants c.args.context.now c.args.runtime.now in
-    let top : l.frames ≡ Text c.args.source c.args.at ∷ drop 1 l.frames =
+    let top : l.frames ≡ Text c.args.cursor.source c.args.cursor.at ∷ drop 1 l.frames =
     first_split _ _ (sym c.requires.top) in
     rw (
       c.scan_source-scanned.ensures.heap,
@@ -28,5 +28,5 @@ scanned_turn-requires-clause-token g c =
 
 pub scan_source-scanned-requires-clause-window : goal.scan_source-scanned-requires-clause-window
 scan_source-scanned-requires-clause-window g c =
-    no_window (g.M.Memory.heap c.args.runtime.now.memory) c.args.source c.clear.new.self.items
+    no_window (g.M.Memory.heap c.args.runtime.now.memory) c.args.cursor.source _ refl
     c.clear.ensures.items

@@ -11,7 +11,7 @@ treat-requires-clause-good g c =
     let l : Lent = lent_of g.M.Memory.heap g.M.Memory.grants c.args.context.now c.args.runtime.now in
     let read = c.requires.read in
     rw c.replace_top.ensures
-    (over_good g.O.Operate.asks c.args.source.now c.args.at l c.requires.good c.args.attempt
+    (over_good g.O.Operate.asks c.args.cursor.now.source c.args.cursor.now.at l c.requires.good c.args.attempt
     read.token
     c.args.end read.further read.scanned)
 
@@ -25,11 +25,11 @@ pub returns-in-Ok : goal.returns-in-Ok
 returns-in-Ok g c =
     let l : Lent = lent_of g.M.Memory.heap g.M.Memory.grants c.args.context.now c.args.runtime.now in
     let read = c.requires.read in
-    text_goes g.O.Operate.asks c.args.source.now c.args.at l c.requires.good c.args.attempt
+    text_goes g.O.Operate.asks c.args.cursor.now.source c.args.cursor.now.at l c.requires.good c.args.attempt
     read.token
     c.args.end read.further read.scanned c.in-Ok.turned _
-    (token_treated g.O.Operate.asks c.args.source.now c.args.at l c.requires.good c.args.attempt
-    read.token c.args.end read.further read.scanned c.args.word c.args.value read.is read.treats
+    (token_treated g.O.Operate.asks c.args.cursor.now.source c.args.cursor.now.at l c.requires.good c.args.attempt
+    read.token c.args.end read.further read.scanned c.args.element.word c.args.element.value read.is read.treats
     (Ok c.in-Ok.turned) _ (rw (c.replace_top.ensures, c.in-Ok.is) at c.treat.ensures))
 
 pub returns-in-Err : goal.returns-in-Err
@@ -38,10 +38,10 @@ returns-in-Err g c =
     let read = c.requires.read in
     let turns = rw (c.replace_top.ensures, c.in-Err.is) at c.treat.ensures in
     rw (c.replace_top-in-Err.ensures
-    ∙ ap (λ (fs : List Frame). Text c.args.source.now c.args.at ∷ drop 1 fs) turns.framed)
-    (text_unmade g.O.Operate.asks c.args.source.now c.args.at l c.requires.good c.args.attempt
+    ∙ ap (λ (fs : List Frame). Text c.args.cursor.now.source c.args.cursor.now.at ∷ drop 1 fs) turns.framed)
+    (text_unmade g.O.Operate.asks c.args.cursor.now.source c.args.cursor.now.at l c.requires.good c.args.attempt
     read.token
     c.args.end read.further read.scanned c.in-Err.reason _
-    (token_treated g.O.Operate.asks c.args.source.now c.args.at l c.requires.good c.args.attempt
-    read.token c.args.end read.further read.scanned c.args.word c.args.value read.is read.treats
+    (token_treated g.O.Operate.asks c.args.cursor.now.source c.args.cursor.now.at l c.requires.good c.args.attempt
+    read.token c.args.end read.further read.scanned c.args.element.word c.args.element.value read.is read.treats
     (Err c.in-Err.reason) _ turns))

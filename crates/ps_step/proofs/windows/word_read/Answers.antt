@@ -5,8 +5,8 @@ use Rattle.ps_step.proofs.windows.word_read.Goals as goal
 pub returns-in-Some-clause-scanned : goal.returns-in-Some-clause-scanned
 returns-in-Some-clause-scanned c = λ all within read.
     let part = c.args.part in
-    let answer = rw c.in-Some.is at c.next_word.ensures.answer in
+    let answer = rw (c.as_slice-list.ensures.value, c.in-Some.is) at c.next_word.ensures.answer in
     rw (c.moved_token.ensures.kind, c.moved_token.ensures.end)
-    (scanned_again all part.offset part.length c.args.at c.args.start _ c.requires.within within
-    c.args.list.now read c.in_ok-front.ensures.place.0 c.requires.fits _ _ answer
-    c.if-next_word-list.true)
+    (scanned_again all part.offset part.length c.args.at c.args.window.now.start _ c.requires.within within
+    c.args.window.now.bytes.items read (rw c.as_slice-list.ensures.value at c.in_ok-front.ensures.place).0 c.requires.fits _ _ answer
+    (rw c.as_slice-list.ensures.value at c.if-next_word-list.true))

@@ -1,7 +1,5 @@
 -- A turn over operands and frames, with the error that it raises.
-use Rattle.std.proofs.Common.{rules, sym, w32, w64}
-use Rattle.std.proofs.lemmas.Int.{to_z-of_z}
-use mir.Val.{SFits}
+use Rattle.std.proofs.Common.{sym}
 use Rattle.ps_language.specs.declared.operators.Operator.TheVariants.{For as TheOperator}
 use Rattle.ps_ops_operands.proofs.Held.{first_held}
 use Rattle.ps_ops_control.specs.Frames.{IsFrame}
@@ -12,9 +10,7 @@ use Rattle.ps_step_frames.proofs.loops.for_step.Goals as goal
 
 pub for_turn-outcome-requires-clause-course : goal.for_turn-outcome-requires-clause-course
 for_turn-outcome-requires-clause-course g c =
-    let control_fits : SFits w64 c.args.control = search rules in
-    let increment_fits : SFits w32 c.args.increment = search rules in
-    simp to_z-of_z ((first_held (IsFrame _ _) _ c.requires.good.frames _ (sym c.requires.top)).1)
+    (first_held (IsFrame _ _) _ c.requires.good.frames _ (sym c.requires.top)).1
 
 pub settle-requires : goal.settle-requires
 settle-requires g c = record {

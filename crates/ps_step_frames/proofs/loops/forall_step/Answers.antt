@@ -22,8 +22,8 @@ returns-in-None g c =
     let l : Lent = lent_of g.M.Memory.heap g.M.Memory.grants c.args.context.now c.args.runtime.now in
     rw (c.operands_at.ensures.heap, c.operands_at.ensures.grants, c.drop_top.ensures.frames)
     (went l c.requires.good c.args.attempt TheOperator l.operands (drop 1 l.frames)
-    (forall_ends l.heap _ l.operands l.frames (ready c.requires.good) c.args.over c.args.at
-    c.args.body (sym c.requires.top) c.in-None.ensures.pushed))
+    (forall_ends l.heap _ l.operands l.frames (ready c.requires.good) c.args.state.over c.args.state.at
+    c.args.state.body (sym c.requires.top) c.in-None.ensures.pushed))
 
 pub returns-in-Some : goal.returns-in-Some
 returns-in-Some g c =

@@ -18,14 +18,12 @@ use Rattle.ps_mem.specs.Meaning.{value_of}
 use Rattle.ps_mem.specs.Shows.{AreWithin, IsSound, Shows}
 use Rattle.ps_mem.proofs.KeepsLemmas.{Keeps-Extends, AreValues-kept}
 use Rattle.ps_ops_operands.specs.Changes.{values_in}
-use Rattle.ps_ops_arrays.proofs.Made.{stands_whole}
-use Rattle.ps_ops_operands.proofs.Making.{whole_part}
+use Rattle.ps_ops_operands.proofs.Making.{array_stands_whole, whole_part, string_stands_whole}
 use Rattle.ps_ops_operands.proofs.Ready.{plain_value, plain_within}
 use Rattle.ps_ops_types.proofs.First.{name_held}
 use Rattle.ps_scan.specs.Shown.{token_of}
 use Rattle.ps_scan.proofs.tokens.TokenKind.TheLaws.{the_size}
 use Rattle.ps_scan.proofs.TokenForms.{integer_is, literal_name_is, executable_name_is, text_is}
-use Rattle.ps_ops_strings.proofs.Made.{stands_whole as string_stands}
 use Rattle.ps_step_tokens.specs.declared.names.NameKind.TheVariants.{Literal, Executable}
 use Rattle.ps_step_tokens.specs.Made.{AreMet, IsMade, one_made}
 use Rattle.ps_step_tokens.specs.Procedures.{tokens_in, token_in, token_words, token_births, element_words, element_births}
@@ -111,7 +109,7 @@ make_element-returns-in-Text-clause-made g t c =
     (λ births names. c.string_word.ensures.value births names)
     (λ births names s inside. c.string_word.ensures.within births names s inside) made.sound
     made.extends
-    (c.string_word.ensures.held now (string_stands now part (length text) part_is made.known))
+    (c.string_word.ensures.held now (string_stands_whole now part (length text) part_is made.known))
     (λ s shows. made.shows names s shows))
 
 -- what stands in the list behind its start is what was made
@@ -289,7 +287,7 @@ make_elements-returns-clause-made g t c =
     (λ (ws : List Word). Shows now names (s ++ array_object (values_in h names ws) ∷ [])) is
     (array.shows names s shows (subst (AreWithin h names s) (sym is) within)))
     word (λ births names. c.array_word.ensures.value births names) array.sound array.extends
-    (c.array_word.ensures.held now (stands_whole now part _ array.part array.known))
+    (c.array_word.ensures.held now (array_stands_whole now part _ array.part array.known))
     (λ store. c.array_word.ensures.within (birth_at now) names store)
 
 pub make_elements-returns-clause-words : goal.make_elements-returns-clause-words

@@ -10,11 +10,10 @@ use Rattle.ps_mem.specs.References.{words_for}
 use Rattle.ps_mem.specs.Shows.{IsValue, Shows}
 use Rattle.ps_mem.proofs.KeepsLemmas.{Keeps-Extends, AreValues-kept}
 use Rattle.ps_ops_operands.specs.Changes.{IsRoomReason}
-use Rattle.ps_ops_operands.proofs.Making.{whole_part}
+use Rattle.ps_ops_operands.proofs.Making.{whole_part, string_stands_whole}
 use Rattle.ps_ops_operands.proofs.Ready.{plain_value, plain_within}
 use Rattle.ps_ops_state.specs.Lent.{Lent, lent_of}
 use Rattle.ps_ops_state.proofs.Meeting.{at_least-same}
-use Rattle.ps_ops_strings.proofs.Made.{stands_whole}
 use Rattle.ps_step_outcome.specs.Turns.{nothing_more}
 use Rattle.ps_step_tokens.specs.Tokens.{token_turn}
 use Rattle.ps_step_tokens.proofs.Alike.{raised, lacked}
@@ -78,7 +77,7 @@ returns g c =
     = rw same at c.make_string-part.ensures.shows in
     let keeps = Keeps-Extends l.heap heap extends in
     let held : IsValue heap c.string_word.result = c.string_word.ensures.held heap
-    (stands_whole heap part (length text) part_is c.make_string-part.ensures.known) in
+    (string_stands_whole heap part (length text) part_is c.make_string-part.ensures.known) in
     rw c.push_reserved.ensures
     (makes_turns nothing_more (token_turn (string_token text)) c.args.attempt l c.requires.good
     c.if-attempt.false heap _ (c.string_word.result ∷ l.operands) l.scratch keeps

@@ -15,8 +15,9 @@ invariant-loop-left g l =
     × (l.seat.me.0.acts_vm ≡ true)
     × (l.seat.me.1 ≡ l.initial.seat.me.1)
     × ∥ VmRuns l.seat.me.0.vm ∥₁
-    × (l.seat.me.0.vm ≡ fields_stored_down l.initial.seat.me.0.vm l.to (l.to_place + l.left)
-    (numbers (drop l.left (words_copied l.initial.seat.me.0.vm l.from l.from_place l.count))))
+    × (l.seat.me.0.vm ≡ fields_stored_down l.initial.seat.me.0.vm l.to.address (l.to.place + l.left)
+    (numbers (drop l.left (words_copied l.initial.seat.me.0.vm l.from.address l.from.place
+    l.count))))
     × KeepsGc l.initial.seat.me.0 l.seat.me.0
 
 abbrev pub decreases-loop-left : goal.decreases-loop-left

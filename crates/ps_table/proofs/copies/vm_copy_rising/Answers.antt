@@ -9,33 +9,23 @@ use Rattle.ps_table.proofs.Kept.{keeps_on, keeps_by}
 use Rattle.ps_table.proofs.Storing.{space_stored}
 use Rattle.ps_table.proofs.copies.vm_copy_rising.Goals as goal
 
-pub overflow_add-from : goal.overflow_add-from
-overflow_add-from g c =
-    let cur = c.loop-done.seat.me.0.vm in
-    let i = c.loop-done.invariant in
-    let one = rises c.args.seat.now.me.0.vm c.requires.runs c.args.from c.args.from_place c.args.to
-    c.args.to_place c.args.count c.requires.can c.requires.order cur c.loop-done.done
-    c.loop-done-test.true i.5 i.6 in
-    let place = one.inside in let size = (vm_facts cur i.5).size.1 in
-    omega arith
-
-pub overflow_add-from_place : goal.overflow_add-from_place
-overflow_add-from_place g c =
-    let cur = c.loop-done.seat.me.0.vm in
-    let i = c.loop-done.invariant in
-    let one = rises c.args.seat.now.me.0.vm c.requires.runs c.args.from c.args.from_place c.args.to
-    c.args.to_place c.args.count c.requires.can c.requires.order cur c.loop-done.done
-    c.loop-done-test.true i.5 i.6 in
-    let place = one.inside in let size = (vm_facts cur i.5).size.1 in
-    omega arith
-
 pub overflow_add-from-in-loop-done : goal.overflow_add-from-in-loop-done
 overflow_add-from-in-loop-done g c =
     let cur = c.loop-done.seat.me.0.vm in
     let i = c.loop-done.invariant in
-    let one = rises c.args.seat.now.me.0.vm c.requires.runs c.args.from c.args.from_place c.args.to
-    c.args.to_place c.args.count c.requires.can c.requires.order cur c.loop-done.done
-    c.loop-done-test.true i.5 i.6 in
+    let one = rises c.args.seat.now.me.0.vm c.requires.runs c.args.from.address c.args.from.place
+    c.args.to.address c.args.to.place c.args.count c.requires.can c.requires.order cur
+    c.loop-done.done c.loop-done-test.true i.5 i.6 in
+    let place = one.inside in let size = (vm_facts cur i.5).size.1 in
+    omega arith
+
+pub overflow_add-from-in-loop-done-2 : goal.overflow_add-from-in-loop-done-2
+overflow_add-from-in-loop-done-2 g c =
+    let cur = c.loop-done.seat.me.0.vm in
+    let i = c.loop-done.invariant in
+    let one = rises c.args.seat.now.me.0.vm c.requires.runs c.args.from.address c.args.from.place
+    c.args.to.address c.args.to.place c.args.count c.requires.can c.requires.order cur
+    c.loop-done.done c.loop-done-test.true i.5 i.6 in
     let place = one.inside in let size = (vm_facts cur i.5).size.1 in
     omega arith
 
@@ -43,19 +33,19 @@ pub vm_load-word-requires-clause-may : goal.vm_load-word-requires-clause-may
 vm_load-word-requires-clause-may g c =
     let cur = c.loop-done.seat.me.0.vm in
     let i = c.loop-done.invariant in
-    (rises c.args.seat.now.me.0.vm c.requires.runs c.args.from c.args.from_place c.args.to
-    c.args.to_place c.args.count c.requires.can c.requires.order cur c.loop-done.done
-    c.loop-done-test.true i.5 i.6).inside
+    (rises c.args.seat.now.me.0.vm c.requires.runs c.args.from.address c.args.from.place
+    c.args.to.address c.args.to.place c.args.count c.requires.can c.requires.order cur
+    c.loop-done.done c.loop-done-test.true i.5 i.6).inside
 
-pub overflow_add-to_place : goal.overflow_add-to_place
-overflow_add-to_place g c =
+pub overflow_add-to : goal.overflow_add-to
+overflow_add-to g c =
     let cur = c.loop-done.seat.me.0.vm in
     let i = c.loop-done.invariant in
     let n = c.vm_load-word.result in
-    let one = rises c.args.seat.now.me.0.vm c.requires.runs c.args.from c.args.from_place c.args.to
-    c.args.to_place c.args.count c.requires.can c.requires.order cur c.loop-done.done
-    c.loop-done-test.true i.5 i.6 in
-    let small = (field_place cur c.args.to (c.args.to_place + c.loop-done.done) n i.5
+    let one = rises c.args.seat.now.me.0.vm c.requires.runs c.args.from.address c.args.from.place
+    c.args.to.address c.args.to.place c.args.count c.requires.can c.requires.order cur
+    c.loop-done.done c.loop-done-test.true i.5 i.6 in
+    let small = (field_place cur c.args.to.address (c.args.to.place + c.loop-done.done) n i.5
     (one.may n c.vm_load-word.ensures.does.finds)).1 in
     omega arith
 
@@ -64,46 +54,47 @@ vm_field-requires-clause-may g c =
     let cur = c.loop-done.seat.me.0.vm in
     let i = c.loop-done.invariant in
     let n = c.vm_load-word.result in
-    let one = rises c.args.seat.now.me.0.vm c.requires.runs c.args.from c.args.from_place c.args.to
-    c.args.to_place c.args.count c.requires.can c.requires.order cur c.loop-done.done
-    c.loop-done-test.true i.5 i.6 in
+    let one = rises c.args.seat.now.me.0.vm c.requires.runs c.args.from.address c.args.from.place
+    c.args.to.address c.args.to.place c.args.count c.requires.can c.requires.order cur
+    c.loop-done.done c.loop-done-test.true i.5 i.6 in
     let same : c.vm_load-word.new.seat.me.0.vm ≡ cur =
     ap (λ m. m.0.vm) c.vm_load-word.ensures.does.did ∙ one.stays c.loop-done.seat.me.0.gc n in
-    subst (λ (x : Vm). VmMay x (FieldStore c.args.to (c.args.to_place + c.loop-done.done) n))
-    (sym same) (one.may n c.vm_load-word.ensures.does.finds)
+    subst (λ (x : Vm). VmMay x
+    (FieldStore c.args.to.address (c.args.to.place + c.loop-done.done) n)) (sym same) (one.may n c.vm_load-word.ensures.does.finds)
 
 pub loop-done-preserved : goal.loop-done-preserved
 loop-done-preserved g c =
     let cur = c.loop-done.seat.me.0.vm in
     let i = c.loop-done.invariant in
     let n = c.vm_load-word.result in
-    let at : ℕ = c.args.to_place + c.loop-done.done in
+    let at : ℕ = c.args.to.place + c.loop-done.done in
     let lt = c.loop-done-test.true in
-    let one = rises c.args.seat.now.me.0.vm c.requires.runs c.args.from c.args.from_place c.args.to
-    c.args.to_place c.args.count c.requires.can c.requires.order cur c.loop-done.done
-    c.loop-done-test.true i.5 i.6 in
+    let one = rises c.args.seat.now.me.0.vm c.requires.runs c.args.from.address c.args.from.place
+    c.args.to.address c.args.to.place c.args.count c.requires.can c.requires.order cur
+    c.loop-done.done c.loop-done-test.true i.5 i.6 in
     let load = c.vm_load-word.ensures.does.did in
     let did = c.vm_field.ensures.does.did in
     let same : c.vm_load-word.new.seat.me.0.vm ≡ cur =
     ap (λ m. m.0.vm) load ∙ one.stays c.loop-done.seat.me.0.gc n in
-    let part : c.vm_field.new.seat.me.0.vm ≡ field_stored cur c.args.to at n =
-    ap (λ m. m.0.vm) did ∙ ap (λ (x : Vm). field_stored x c.args.to at n) same in (
+    let part : c.vm_field.new.seat.me.0.vm ≡ field_stored cur c.args.to.address at n =
+    ap (λ m. m.0.vm) did ∙ ap (λ (x : Vm). field_stored x c.args.to.address at n) same in (
       omega arith,
       (
         c.vm_field.ensures.same.0,
         c.vm_field.ensures.same.1 ∙ (c.vm_load-word.ensures.same.1 ∙ i.1.1),
       ),
       ap (λ t. t.words) (c.vm_field.ensures.same.1 ∙ c.vm_load-word.ensures.same.1)
-          ∙ i.2 ∙ ap table_size (sym (ap (λ (x : Vm). x.space) part ∙ space_stored cur c.args.to at
-          (n ∷ []))),
+          ∙ i.2 ∙ ap table_size (sym (ap (λ (x : Vm). x.space) part ∙ space_stored cur
+          c.args.to.address at (n ∷ []))),
       ap (λ m. m.0.acts_vm) did ∙ (ap (λ m. m.0.acts_vm) load ∙ i.3),
       ap (λ m. m.1) did ∙ (ap (λ m. m.1) load ∙ i.4),
       ∣ c.vm_field.ensures.does.runs ∣₁,
       part ∙ one.next_is n c.vm_load-word.ensures.does.finds,
       keeps_on _ _ _ i.7 (keeps_on _ c.vm_load-word.new.seat.me.0 _
-          (keeps_by _ _ (VmLoad (c.args.from + 2 + (c.args.from_place + c.loop-done.done)) n)
+          (keeps_by _ _ (VmLoad
+          (c.args.from.address + 2 + (c.args.from.place + c.loop-done.done)) n)
           (ap (λ m. m.0) load))
-          (keeps_by _ _ (FieldStore c.args.to at n) (ap (λ m. m.0) did))),
+          (keeps_by _ _ (FieldStore c.args.to.address at n) (ap (λ m. m.0) did))),
     )
 
 pub returns-clause-gc : goal.returns-clause-gc

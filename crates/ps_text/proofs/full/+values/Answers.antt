@@ -24,7 +24,7 @@ append_elements-loop-index-preserved g t c =
     let p = c.args.part in
     let i = c.loop-index.index in
     let word = c.element-word.result in
-    let names = c.args.names.now in
+    let names = c.args.printer.now.names.now in
     let b = birth_at (g.M.Memory.heap c.args.memory.now) in
     let now = c.loop-index.output.items in
     let mid = c.append_separator.new.output.items in
@@ -34,7 +34,7 @@ append_elements-loop-index-preserved g t c =
     let Within : Heap → Type 0 = λ h. (names : List (List ℕ)) (s : Store) → Shows h names s
     → IsWithin (birth_at h) names s word in
     let Writes : Heap → Type 0 = λ h. (s : Store) → Shows h names s → IsWithin (birth_at h) names s word
-    → new ≡ take c.args.end (mid ++ text_to c.args.depth s (value_of (birth_at h) names word)) in
+    → new ≡ take c.args.printer.now.end (mid ++ text_to c.args.depth s (value_of (birth_at h) names word)) in
     let same = c.element-word.ensures.heap ∙ c.loop-index.invariant.heap in
     let reads = subst Reads c.loop-index.invariant.heap c.element-word.ensures.value in
     let within = subst Within c.loop-index.invariant.heap c.element-word.ensures.within in
@@ -50,7 +50,7 @@ append_elements-loop-index-preserved g t c =
           c.append_value.ensures.goes_on;
       capacity = omega (arith, grown, further, again);
       rest = λ s shows.
-          elements_step (text_to c.args.depth s) c.args.end _ now i (part_elements s (part_of b p))
+          elements_step (text_to c.args.depth s) c.args.printer.now.end _ now i (part_elements s (part_of b p))
           (value_of b names word)
           (part_next (elements s (b p.address)) p.offset p.length i (value_of b names word) c.loop-index-test.true
           (reads names s shows))
@@ -65,7 +65,7 @@ append_elements-returns-in_err-append_separator-clause-full g t c = λ s shows.
     let p = c.args.part in
     let i = c.loop-index.index in
     let word = c.element-word.result in
-    let names = c.args.names.now in
+    let names = c.args.printer.now.names.now in
     let b = birth_at (g.M.Memory.heap c.args.memory.now) in
     let Reads : Heap → Type 0 = λ h. (names : List (List ℕ)) (s : Store) → Shows h names s
     → slice_get (elements s (birth_at h p.address)) (p.offset + i) ≡ Some (value_of (birth_at h) names word) in
@@ -73,7 +73,7 @@ append_elements-returns-in_err-append_separator-clause-full g t c = λ s shows.
     let grown = c.loop-index.invariant.capacity in
     let full = c.in_err-append_separator.ensures.full in
     err_given _ c.from_residual.result
-    (separator_full (text_to c.args.depth s) c.args.end _ c.loop-index.output.items i (part_elements s (part_of b p))
+    (separator_full (text_to c.args.depth s) c.args.printer.now.end _ c.loop-index.output.items i (part_elements s (part_of b p))
     (value_of b names word)
     (part_next (elements s (b p.address)) p.offset p.length i (value_of b names word) c.loop-index-test.true
     (reads names s shows))
@@ -86,7 +86,7 @@ append_elements-returns-in_err-append_value-clause-full g t c = λ s shows.
     let p = c.args.part in
     let i = c.loop-index.index in
     let word = c.element-word.result in
-    let names = c.args.names.now in
+    let names = c.args.printer.now.names.now in
     let b = birth_at (g.M.Memory.heap c.args.memory.now) in
     let mid = c.append_separator.new.output.items in
     let room = vec_capacity c.append_separator.new.output in
@@ -95,7 +95,7 @@ append_elements-returns-in_err-append_value-clause-full g t c = λ s shows.
     let Within : Heap → Type 0 = λ h. (names : List (List ℕ)) (s : Store) → Shows h names s
     → IsWithin (birth_at h) names s word in
     let Lacks : Heap → Type 0 = λ h. (s : Store) → Shows h names s → IsWithin (birth_at h) names s word
-    → room < length (take c.args.end (mid ++ text_to c.args.depth s (value_of (birth_at h) names word))) in
+    → room < length (take c.args.printer.now.end (mid ++ text_to c.args.depth s (value_of (birth_at h) names word))) in
     let reads = subst Reads c.loop-index.invariant.heap c.element-word.ensures.value in
     let within = subst Within c.loop-index.invariant.heap c.element-word.ensures.within in
     let lacks = subst Lacks (c.element-word.ensures.heap
@@ -104,7 +104,7 @@ append_elements-returns-in_err-append_value-clause-full g t c = λ s shows.
     let further = c.append_separator.ensures.capacity in
     let full = lacks s shows (within names s shows) in
     err_given _ c.from_residual-in_err-append_value.result
-    (element_full (text_to c.args.depth s) c.args.end _ c.loop-index.output.items i (part_elements s (part_of b p))
+    (element_full (text_to c.args.depth s) c.args.printer.now.end _ c.loop-index.output.items i (part_elements s (part_of b p))
     (value_of b names word)
     (part_next (elements s (b p.address)) p.offset p.length i (value_of b names word) c.loop-index-test.true
     (reads names s shows))
@@ -124,33 +124,33 @@ append_value-append_simple-requires g t c = record {
 pub append_value-returns-in_default-clause-ok : goal.append_value-returns-in_default-clause-ok
 append_value-returns-in_default-clause-ok g t c = λ s shows within.
     let b = birth_at (g.M.Memory.heap c.args.memory.now) in
-    let names = c.args.names.now in
+    let names = c.args.printer.now.names.now in
     let w = c.args.word in
     let content = c.content-content.result in
     let text = simple_is b names s w content c.content-content.ensures c.args.depth
     (λ part. c.in_default.not-Array part)
     ∙ ap (λ e. simple_text s e (what_of b names content)) (sym c.is_executable-executable.ensures) in
     subst (λ (xs : List ℕ). OnOk c.append_simple.result (c.append_simple.new.output.items
-    ≡ take c.args.end (c.args.output.now.items ++ xs))) (sym text)
+    ≡ take c.args.printer.now.end (c.args.output.now.items ++ xs))) (sym text)
     (c.append_simple.ensures.ok s shows (within_content w content c.content-content.ensures b names s within))
 
 pub append_value-returns-in_default-clause-full : goal.append_value-returns-in_default-clause-full
 append_value-returns-in_default-clause-full g t c = λ s shows within.
     let b = birth_at (g.M.Memory.heap c.args.memory.now) in
-    let names = c.args.names.now in
+    let names = c.args.printer.now.names.now in
     let w = c.args.word in
     let content = c.content-content.result in
     let text = simple_is b names s w content c.content-content.ensures c.args.depth
     (λ part. c.in_default.not-Array part)
     ∙ ap (λ e. simple_text s e (what_of b names content)) (sym c.is_executable-executable.ensures) in
     subst (λ (xs : List ℕ). OnErr c.append_simple.result (vec_capacity c.args.output.now
-    < length (take c.args.end (c.args.output.now.items ++ xs)))) (sym text)
+    < length (take c.args.printer.now.end (c.args.output.now.items ++ xs)))) (sym text)
     (c.append_simple.ensures.full s shows (within_content w content c.content-content.ensures b names s within))
 
 pub append_value-returns-then-depth-eq0-clause-ok : goal.append_value-returns-then-depth-eq0-clause-ok
 append_value-returns-then-depth-eq0-clause-ok g t c = λ s shows within.
     let b = birth_at (g.M.Memory.heap c.args.memory.now) in
-    let names = c.args.names.now in
+    let names = c.args.printer.now.names.now in
     let w = c.args.word in
     let part = c.in-Array.part in
     let is : Array part ≡ content_in w.0 = sym c.in-Array.is ∙ c.content-content.ensures in
@@ -161,12 +161,12 @@ append_value-returns-then-depth-eq0-clause-ok g t c = λ s shows within.
           c.args.depth (sym v.is_readable.ensures ∙ v.if-not-is_readable.true)
     ] in
     subst (λ (xs : List ℕ). OnOk c.append_cut.result (c.append_cut.new.output.items
-    ≡ take c.args.end (c.args.output.now.items ++ xs))) (sym text) c.append_cut.ensures.ok
+    ≡ take c.args.printer.now.end (c.args.output.now.items ++ xs))) (sym text) c.append_cut.ensures.ok
 
 pub append_value-returns-then-depth-eq0-clause-full : goal.append_value-returns-then-depth-eq0-clause-full
 append_value-returns-then-depth-eq0-clause-full g t c = λ s shows within.
     let b = birth_at (g.M.Memory.heap c.args.memory.now) in
-    let names = c.args.names.now in
+    let names = c.args.printer.now.names.now in
     let w = c.args.word in
     let part = c.in-Array.part in
     let is : Array part ≡ content_in w.0 = sym c.in-Array.is ∙ c.content-content.ensures in
@@ -177,7 +177,7 @@ append_value-returns-then-depth-eq0-clause-full g t c = λ s shows within.
           c.args.depth (sym v.is_readable.ensures ∙ v.if-not-is_readable.true)
     ] in
     subst (λ (xs : List ℕ). OnErr c.append_cut.result (vec_capacity c.args.output.now
-    < length (take c.args.end (c.args.output.now.items ++ xs)))) (sym text) c.append_cut.ensures.full
+    < length (take c.args.printer.now.end (c.args.output.now.items ++ xs)))) (sym text) c.append_cut.ensures.full
 
 -- ---- an array that is gone into
 
@@ -198,10 +198,10 @@ append_value-append_elements-requires g t c κs within =
 pub append_value-returns-in_err-append_cut-clause-full : goal.append_value-returns-in_err-append_cut-clause-full
 append_value-returns-in_err-append_cut-clause-full g t c = λ s shows within.
     let b = birth_at (g.M.Memory.heap c.args.memory.now) in
-    let names = c.args.names.now in
+    let names = c.args.printer.now.names.now in
     let w = c.args.word in
     let part = c.in-Array.part in
-    let end = c.args.end in
+    let end = c.args.printer.now.end in
     let old = c.args.output.now.items in
     let is : Array part ≡ content_in w.0 = sym c.in-Array.is ∙ c.content-content.ensures in
     let readable : is_readable part.access ≡ true = sym c.is_readable.ensures ∙ c.if-not-is_readable.false in
@@ -222,10 +222,10 @@ pub
     goal.append_value-returns-in_err-append_elements-clause-full
 append_value-returns-in_err-append_elements-clause-full g t c = λ s shows within.
     let b = birth_at (g.M.Memory.heap c.args.memory.now) in
-    let names = c.args.names.now in
+    let names = c.args.printer.now.names.now in
     let w = c.args.word in
     let part = c.in-Array.part in
-    let end = c.args.end in
+    let end = c.args.printer.now.end in
     let old = c.args.output.now.items in
     let is : Array part ≡ content_in w.0 = sym c.in-Array.is ∙ c.content-content.ensures in
     let readable : is_readable part.access ≡ true = sym c.is_readable.ensures ∙ c.if-not-is_readable.false in
@@ -247,10 +247,10 @@ append_value-returns-in_err-append_elements-clause-full g t c = λ s shows withi
 pub append_value-returns-clause-ok : goal.append_value-returns-clause-ok
 append_value-returns-clause-ok g t c = λ s shows within.
     let b = birth_at (g.M.Memory.heap c.args.memory.now) in
-    let names = c.args.names.now in
+    let names = c.args.printer.now.names.now in
     let w = c.args.word in
     let part = c.in-Array.part in
-    let end = c.args.end in
+    let end = c.args.printer.now.end in
     let old = c.args.output.now.items in
     let is : Array part ≡ content_in w.0 = sym c.in-Array.is ∙ c.content-content.ensures in
     let readable : is_readable part.access ≡ true = sym c.is_readable.ensures ∙ c.if-not-is_readable.false in
@@ -273,10 +273,10 @@ append_value-returns-clause-ok g t c = λ s shows within.
 pub append_value-returns-clause-full : goal.append_value-returns-clause-full
 append_value-returns-clause-full g t c = λ s shows within.
     let b = birth_at (g.M.Memory.heap c.args.memory.now) in
-    let names = c.args.names.now in
+    let names = c.args.printer.now.names.now in
     let w = c.args.word in
     let part = c.in-Array.part in
-    let end = c.args.end in
+    let end = c.args.printer.now.end in
     let old = c.args.output.now.items in
     let is : Array part ≡ content_in w.0 = sym c.in-Array.is ∙ c.content-content.ensures in
     let readable : is_readable part.access ≡ true = sym c.is_readable.ensures ∙ c.if-not-is_readable.false in

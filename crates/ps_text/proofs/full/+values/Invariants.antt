@@ -23,12 +23,12 @@ invariant-append_elements-loop-index g l =
     record {
       heap : heap_in l.memory ≡ heap_in l.fn.memory;
       grants : g.M.Memory.grants l.memory ≡ g.M.Memory.grants l.fn.memory;
-      goes_on : GoesOn l.end l.initial.output.items l.output.items;
+      goes_on : GoesOn l.printer.end l.initial.output.items l.output.items;
       capacity : vec_capacity l.initial.output ≤ vec_capacity l.output;
-      rest : (s : Store) → Shows (heap_in l.fn.memory) l.names s →
-          take l.end (l.output.items ++ rest_text l.index
+      rest : (s : Store) → Shows (heap_in l.fn.memory) l.printer.names.now s →
+          take l.printer.end (l.output.items ++ rest_text l.index
           (map (text_to l.depth s)
           (drop l.index (part_elements s (part_of (birth_at (heap_in l.fn.memory)) l.part)))))
-          ≡ take l.end (l.initial.output.items ++ join_with_byte 32
+          ≡ take l.printer.end (l.initial.output.items ++ join_with_byte 32
           (map (text_to l.depth s) (part_elements s (part_of (birth_at (heap_in l.fn.memory)) l.part))));
     }

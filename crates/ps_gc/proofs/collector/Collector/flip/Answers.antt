@@ -1,4 +1,4 @@
-use Rattle.std.proofs.Common.{arith, ◌≡◌, ◌+◌, ◌*◌, ◌%◌, ◌<◌, ℕ, List, [], ◌∷◌, false, length, refl, Some, sym, ap}
+use Rattle.std.proofs.Common.{arith, ◌≡◌, ◌+◌, ◌<◌, ℕ, List, [], ◌∷◌, false, length, refl, Some, sym, ap}
 use Rattle.std.proofs.Common.{◌∙◌, subst, replicate}
 use Rattle.ps_word.specs.declared.words.Word.{Word}
 use Rattle.ps_core_machine.specs.declared.events.Event.{Event}

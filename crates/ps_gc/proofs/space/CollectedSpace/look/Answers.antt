@@ -1,4 +1,4 @@
-use Rattle.std.proofs.Common.{ap, arith}
+use Rattle.std.proofs.Common.{ap}
 use Rattle.ps_table.proofs.Kept.{keeps_vm, sits_on}
 use Rattle.ps_gc.proofs.Spaces.{knows_on}
 use Rattle.ps_gc.proofs.space.CollectedSpace.look.Goals as goal

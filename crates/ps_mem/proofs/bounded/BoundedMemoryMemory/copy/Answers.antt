@@ -10,16 +10,18 @@ pub copy-requires-clause-source : goal.copy-requires-clause-source
 copy-requires-clause-source c =
     let r = c.args.self.now.region in
     subst (λ (s : Region). (space : Space)
-    → c.args.from_place + c.args.count ≤ length (fields_at (heap_in s.words s.used s.next space) c.args.from))
+    → c.args.from.place + c.args.count
+    ≤ length (fields_at (heap_in s.words s.used s.next space) c.args.from.address))
     (sym c.log.ensures.region)
-    (reaches_any r.words r.used r.next (bounded_space c.args.self.now.size) c.args.from
-    (c.args.from_place + c.args.count) c.requires.source)
+    (reaches_any r.words r.used r.next (bounded_space c.args.self.now.size) c.args.from.address
+    (c.args.from.place + c.args.count) c.requires.source)
 
 pub copy-requires-clause-target : goal.copy-requires-clause-target
 copy-requires-clause-target c =
     let r = c.args.self.now.region in
     subst (λ (s : Region). (space : Space)
-    → c.args.to_place + c.args.count ≤ length (fields_at (heap_in s.words s.used s.next space) c.args.to))
+    → c.args.to.place + c.args.count
+    ≤ length (fields_at (heap_in s.words s.used s.next space) c.args.to.address))
     (sym c.log.ensures.region)
-    (reaches_any r.words r.used r.next (bounded_space c.args.self.now.size) c.args.to
-    (c.args.to_place + c.args.count) c.requires.target)
+    (reaches_any r.words r.used r.next (bounded_space c.args.self.now.size) c.args.to.address
+    (c.args.to.place + c.args.count) c.requires.target)

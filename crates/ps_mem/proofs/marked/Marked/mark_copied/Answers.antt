@@ -5,21 +5,22 @@ use Rattle.ps_mem.specs.Marks.{AreMarked, IsMarked}
 use Rattle.ps_mem.proofs.MarkLemmas.{headed, marked-wider, marked-next, marked-all, marked-within, length-range, range_at}
 use Rattle.ps_mem.proofs.marked.Marked.mark_copied.Goals as goal
 
-pub returns-then-from_place-to_place-clause-marked : goal.returns-then-from_place-to_place-clause-marked
-returns-then-from_place-to_place-clause-marked g c =
+pub returns-then-from-to-2-clause-marked : goal.returns-then-from-to-2-clause-marked
+returns-then-from-to-2-clause-marked g c =
     let s = c.args.self.now in
     let h = g.M.Memory.heap s.memory in
     let a = c.args in
-    subst (λ from. AreMarked h s.marks.items.items a.to a.to_place
-    (slice_range (fields_at h from) a.from_place (a.from_place + a.count))) (sym c.if-from-to.true)
-    (marked-within h s.marks.items.items s.covers a.to a.from_place a.to_place a.count
-    c.if-from_place-to_place.true)
+    subst (λ from. AreMarked h s.marks.items.items a.to.address a.to.place
+    (slice_range (fields_at h from) a.from.place (a.from.place + a.count))) (sym c.if-from-to.true)
+    (marked-within h s.marks.items.items s.covers a.to.address a.from.place a.to.place a.count
+    c.if-from-to-2.true)
 
-pub overflow_add-to_place : goal.overflow_add-to_place
-overflow_add-to_place g c =
+pub overflow_add-to : goal.overflow_add-to
+overflow_add-to g c =
     let h = g.M.Memory.heap c.args.self.now.memory in
     let header = c.header-header.result in
-    let (o, at, kind, fields, birth) = headed h c.args.to c.requires.stands header c.header-header.ensures.answer in
+    let (o, at, kind, fields, birth) = headed h c.args.to.address c.requires.stands header
+    c.header-header.ensures.answer in
     let target = c.requires.target in
     let below = c.loop-index-test.true in
     record { fits = omega (arith, fields, target, below) }
@@ -30,23 +31,26 @@ loop-index-preserved g c =
     let a = c.args in
     let (heap, grants, widens, marked) = c.loop-index.invariant in
     let now = c.mark_word.new.self.marks.items.items in
-    let items = slice_range (fields_at h a.from) a.from_place (a.from_place + a.count) in
+    let items = slice_range (fields_at h a.from.address) a.from.place (a.from.place + a.count) in
     let i = c.loop-index.index in
-    let wider = marked-wider h c.loop-index.self.marks.items.items now a.to a.to_place
+    let wider = marked-wider h c.loop-index.self.marks.items.items now a.to.address a.to.place
     items i c.mark_word.ensures.widens marked in
     let word = c.load_at-word.result in
     let same : g.M.Memory.heap c.load_at-word.new.self ≡ h = c.load_at-word.ensures.heap ∙ heap in
-    let next = subst (λ (k : Heap). IsMarked k now a.to (a.to_place + i) word) same
+    let next = subst (λ (k : Heap). IsMarked k now a.to.address (a.to.place + i) word) same
     c.mark_word.ensures.marked in
-    let there = range_at (fields_at h a.from) a.from_place a.count i word c.loop-index-test.true
-    (let at : a.from + a.from_place + i - a.from ≡ a.from_place + i = omega arith in
-    ap (slice_get (fields_at h a.from)) (sym at)
-    ∙ (ap (λ (k : Heap). slice_get (fields_at k a.from) (a.from + a.from_place + i - a.from)) (sym heap)
+    let first = a.from.address + a.from.place in
+    let there = range_at (fields_at h a.from.address) a.from.place a.count i word
+    c.loop-index-test.true
+    (let at : first + i - a.from.address ≡ a.from.place + i = omega arith in
+    ap (slice_get (fields_at h a.from.address)) (sym at)
+    ∙ (ap (λ (k : Heap). slice_get (fields_at k a.from.address) (first + i - a.from.address))
+    (sym heap)
     ∙ c.load_at-word.ensures.answer)) in (
       c.mark_word.ensures.heap ∙ same,
       c.mark_word.ensures.grants ∙ (c.load_at-word.ensures.grants ∙ grants),
       (λ name birth e. c.mark_word.ensures.widens name birth (widens name birth e)),
-      marked-next h now a.to a.to_place items i word wider there next,
+      marked-next h now a.to.address a.to.place items i word wider there next,
     )
 
 pub returns-clause-marked : goal.returns-clause-marked
@@ -54,9 +58,9 @@ returns-clause-marked g c =
     let h = g.M.Memory.heap c.args.self.now.memory in
     let a = c.args in
     let (heap, grants, widens, marked) = c.loop-index.invariant in
-    let items = slice_range (fields_at h a.from) a.from_place (a.from_place + a.count) in
-    let long : length items ≡ a.count = length-range (fields_at h a.from) a.from_place a.count
-    c.requires.source in
+    let items = slice_range (fields_at h a.from.address) a.from.place (a.from.place + a.count) in
+    let long : length items ≡ a.count = length-range (fields_at h a.from.address) a.from.place
+    a.count c.requires.source in
     let over = c.loop-index-test.false in
-    marked-all h c.loop-index.self.marks.items.items a.to a.to_place items c.loop-index.index
-    (omega (arith, long, over)) marked
+    marked-all h c.loop-index.self.marks.items.items a.to.address a.to.place items
+    c.loop-index.index (omega (arith, long, over)) marked

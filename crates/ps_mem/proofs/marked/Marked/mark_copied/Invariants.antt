@@ -11,6 +11,6 @@ invariant-loop-index g l =
     (g.M.Memory.heap l.self.memory ≡ g.M.Memory.heap l.fn.self.memory)
     × (g.M.Memory.grants l.self.memory ≡ g.M.Memory.grants l.fn.self.memory)
     × Widens l.fn.self.marks.items.items l.self.marks.items.items
-    × AreMarkedBelow (g.M.Memory.heap l.fn.self.memory) l.self.marks.items.items l.fn.to
-    l.fn.to_place (slice_range (fields_at (g.M.Memory.heap l.fn.self.memory) l.fn.from) l.fn.from_place
-    (l.fn.from_place + l.fn.count)) l.index
+    × AreMarkedBelow (g.M.Memory.heap l.fn.self.memory) l.self.marks.items.items l.fn.to.address
+    l.fn.to.place (slice_range (fields_at (g.M.Memory.heap l.fn.self.memory) l.fn.from.address)
+    l.fn.from.place (l.fn.from.place + l.fn.count)) l.index

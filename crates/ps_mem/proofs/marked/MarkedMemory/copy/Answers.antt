@@ -9,7 +9,7 @@ pub mark_copied-requires-clause-stands : goal.mark_copied-requires-clause-stands
 mark_copied-requires-clause-stands g c =
     let some = c.requires.some in
     let target = c.requires.target in
-    has_field (g.M.Memory.heap c.args.self.now.memory) c.args.to c.args.to_place
+    has_field (g.M.Memory.heap c.args.self.now.memory) c.args.to.address c.args.to.place
     (omega (arith, some, target))
 
 pub invariant_of-self : goal.invariant_of-self
@@ -19,16 +19,19 @@ invariant_of-self g c =
     let a = c.args in
     let marks = s.marks.items.items in
     let covers : Covers h marks = subst (λ (k : Heap). Covers k marks) c.mark_copied.ensures.heap s.covers in
-    let items = slice_range (fields_at h a.from) a.from_place (a.from_place + a.count) in
-    let long : length items ≡ a.count = length-range (fields_at h a.from) a.from_place a.count c.requires.source in
+    let items = slice_range (fields_at h a.from.address) a.from.place (a.from.place + a.count) in
+    let long : length items ≡ a.count = length-range (fields_at h a.from.address) a.from.place
+    a.count c.requires.source in
     let some = c.requires.some in
     let target = c.requires.target in
-    let now : g.M.Memory.heap c.copy.new.self ≡ stored h a.to a.to_place items =
+    let now : g.M.Memory.heap c.copy.new.self ≡ stored h a.to.address a.to.place items =
     c.copy.ensures.heap
-    ∙ ap (λ (k : Heap). stored k a.to a.to_place
-    (slice_range (fields_at k a.from) a.from_place (a.from_place + a.count))) c.mark_copied.ensures.heap in
+    ∙ ap (λ (k : Heap). stored k a.to.address a.to.place
+    (slice_range (fields_at k a.from.address) a.from.place (a.from.place + a.count)))
+    c.mark_copied.ensures.heap in
     record {
       covers = subst (λ (k : Heap). Covers k marks) (sym now)
-          (Covers-stored h a.to a.to_place items (omega (arith, long, some)) (omega (arith, long, target))
+          (Covers-stored h a.to.address a.to.place items (omega (arith, long, some))
+          (omega (arith, long, target))
           marks covers c.mark_copied.ensures.marked);
     }

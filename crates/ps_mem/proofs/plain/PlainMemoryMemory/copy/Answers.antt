@@ -5,8 +5,10 @@ use Rattle.ps_mem.proofs.plain.PlainMemoryMemory.copy.Goals as goal
 
 pub copy-requires-clause-source : goal.copy-requires-clause-source
 copy-requires-clause-source c = let r = c.args.self.now.region in
-    reaches_any r.words r.used r.next plain_space c.args.from (c.args.from_place + c.args.count) c.requires.source
+    reaches_any r.words r.used r.next plain_space c.args.from.address
+    (c.args.from.place + c.args.count) c.requires.source
 
 pub copy-requires-clause-target : goal.copy-requires-clause-target
 copy-requires-clause-target c = let r = c.args.self.now.region in
-    reaches_any r.words r.used r.next plain_space c.args.to (c.args.to_place + c.args.count) c.requires.target
+    reaches_any r.words r.used r.next plain_space c.args.to.address
+    (c.args.to.place + c.args.count) c.requires.target

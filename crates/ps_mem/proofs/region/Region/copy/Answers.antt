@@ -6,15 +6,17 @@ use Rattle.ps_mem.proofs.region.Region.copy.Goals as goal
 pub copy_within-requires-clause-source : goal.copy_within-requires-clause-source
 copy_within-requires-clause-source c =
     let r = c.args.self.now in
-    let inside = source_place r.words r.used r.next r.within r.whole c.args.from c.args.from_place c.args.to
-    c.args.to_place c.args.count c.requires.some c.requires.source c.requires.target in
+    let inside = source_place r.words r.used r.next r.within r.whole c.args.from.address
+    c.args.from.place c.args.to.address c.args.to.place c.args.count c.requires.some
+    c.requires.source c.requires.target in
     let within = r.within in omega (arith, inside, within)
 
 pub copy_within-requires-clause-target : goal.copy_within-requires-clause-target
 copy_within-requires-clause-target c =
     let r = c.args.self.now in
-    let inside = target_place r.words r.used r.next r.within r.whole c.args.from c.args.from_place c.args.to
-    c.args.to_place c.args.count c.requires.some c.requires.source c.requires.target in
+    let inside = target_place r.words r.used r.next r.within r.whole c.args.from.address
+    c.args.from.place c.args.to.address c.args.to.place c.args.count c.requires.some
+    c.requires.source c.requires.target in
     let within = r.within in omega (arith, inside, within)
 
 pub invariant_of-self : goal.invariant_of-self
@@ -22,22 +24,26 @@ invariant_of-self c =
     let r = c.args.self.now in
     let same : length c.copy_within.new.self ≡ length r.words =
     ap length c.copy_within.ensures
-    ∙ length-copied r.words r.used r.next r.within r.whole c.args.from c.args.from_place c.args.to c.args.to_place
-    c.args.count c.requires.some c.requires.source c.requires.target in
+    ∙ length-copied r.words r.used r.next r.within r.whole c.args.from.address c.args.from.place
+    c.args.to.address c.args.to.place c.args.count c.requires.some c.requires.source
+    c.requires.target in
     let within = r.within in
     let limited = r.limited in
     record {
       within = omega (arith, same, within);
       limited = omega (arith, same, limited);
       whole = ap (λ ws. wanting (take r.used ws) 0) c.copy_within.ensures
-          ∙ wanting-copied r.words r.used r.next r.within r.whole c.args.from c.args.from_place c.args.to
-          c.args.to_place c.args.count c.requires.some c.requires.source c.requires.target;
+          ∙ wanting-copied r.words r.used r.next r.within r.whole c.args.from.address
+          c.args.from.place c.args.to.address c.args.to.place c.args.count c.requires.some
+          c.requires.source c.requires.target;
       headers = ap (λ ws. all_headers (take r.used ws) 0) c.copy_within.ensures
-          ∙ (headers-copied r.words r.used r.next r.within r.whole c.args.from c.args.from_place c.args.to
-          c.args.to_place c.args.count c.requires.some c.requires.source c.requires.target ∙ r.headers);
+          ∙ (headers-copied r.words r.used r.next r.within r.whole c.args.from.address
+          c.args.from.place c.args.to.address c.args.to.place c.args.count c.requires.some
+          c.requires.source c.requires.target ∙ r.headers);
       blank = ap (drop r.used) c.copy_within.ensures
-          ∙ (behind-copied r.words r.used r.next r.within r.whole c.args.from c.args.from_place c.args.to
-          c.args.to_place c.args.count c.requires.some c.requires.source c.requires.target
+          ∙ (behind-copied r.words r.used r.next r.within r.whole c.args.from.address
+          c.args.from.place c.args.to.address c.args.to.place c.args.count c.requires.some
+          c.requires.source c.requires.target
           ∙ (r.blank ∙ ap (λ k. replicate {A = ℕ} (k - r.used) 0) (sym same)));
       births = r.births;
     }
@@ -46,8 +52,9 @@ pub returns-clause-heap : goal.returns-clause-heap
 returns-clause-heap c = λ space.
     let r = c.args.self.now in
     ap (λ ws. heap_in ws r.used r.next space) c.copy_within.ensures
-    ∙ heap-copied r.words r.used r.next r.within r.whole c.args.from c.args.from_place c.args.to c.args.to_place
-    c.args.count c.requires.some c.requires.source c.requires.target space
+    ∙ heap-copied r.words r.used r.next r.within r.whole c.args.from.address c.args.from.place
+    c.args.to.address c.args.to.place c.args.count c.requires.some c.requires.source
+    c.requires.target space
 
 pub returns-clause-counts : goal.returns-clause-counts
 returns-clause-counts c =
@@ -55,6 +62,7 @@ returns-clause-counts c =
       refl,
       refl,
       ap length c.copy_within.ensures
-          ∙ length-copied r.words r.used r.next r.within r.whole c.args.from c.args.from_place c.args.to c.args.to_place
-          c.args.count c.requires.some c.requires.source c.requires.target,
+          ∙ length-copied r.words r.used r.next r.within r.whole c.args.from.address
+          c.args.from.place c.args.to.address c.args.to.place c.args.count c.requires.some
+          c.requires.source c.requires.target,
     )

@@ -11,10 +11,10 @@ returns-in-Ok g c = λ asks.
       c.settle.ensures.lines,
     )
     (steps_undefined asks _ c.args.operator c.args.self.now.error_lines _ c.args.attempt
-    (rw c.requires.calling at c.requires.steady) c.in-Ok.turned c.in-Ok.ensures)
+    (rw c.requires.calling at c.requires.steady) c.in-Ok.turned (rw c.operator.ensures at c.in-Ok.ensures))
 
 pub returns-in-Err : goal.returns-in-Err
 returns-in-Err g c = λ asks.
     rw c.requires.calling
     (steps_waiting asks _ c.args.operator c.args.self.now.error_lines _ c.args.attempt
-    (rw c.requires.calling at c.requires.steady) c.in-Err.reason c.in-Err.ensures)
+    (rw c.requires.calling at c.requires.steady) c.in-Err.reason (rw c.operator.ensures at c.in-Err.ensures))

@@ -23,17 +23,18 @@ settle-requires g c =
     let n = c.args.self.now in
     let s = c.requires.sits.1 in
     let slot = c.args.slot in
-    let a = c.args.to in
-    let i = c.args.to_place in
-    let able : CanCopy v c.args.from c.args.from_place a i c.args.count = record {
+    let a = c.args.to.address in
+    let i = c.args.to.place in
+    let able : CanCopy v c.args.from.address c.args.from.place a i c.args.count = record {
       some = c.requires.some;
       source_within = c.requires.source;
       target_within = c.requires.target;
       known = c.requires.known;
       settled = s.mirrors.settled;
     } in
-    let items = words_copied v c.args.from c.args.from_place c.args.count in
-    let copy = copies v (vm_facts v s.runs) c.args.from c.args.from_place a i c.args.count able in
+    let items = words_copied v c.args.from.address c.args.from.place c.args.count in
+    let copy = copies v (vm_facts v s.runs) c.args.from.address c.args.from.place a i c.args.count
+    able in
     let count : length items ≡ c.args.count = copy.count_is in
     let small = (few _ m n s slot a i items copy.can c.requires.granted).0 in
     let now = c.vm_copy.new.seat.me in
@@ -60,17 +61,18 @@ returns g c =
     let n = c.args.self.now in
     let s = c.requires.sits.1 in
     let slot = c.args.slot in
-    let a = c.args.to in
-    let i = c.args.to_place in
-    let able : CanCopy v c.args.from c.args.from_place a i c.args.count = record {
+    let a = c.args.to.address in
+    let i = c.args.to.place in
+    let able : CanCopy v c.args.from.address c.args.from.place a i c.args.count = record {
       some = c.requires.some;
       source_within = c.requires.source;
       target_within = c.requires.target;
       known = c.requires.known;
       settled = s.mirrors.settled;
     } in
-    let items = words_copied v c.args.from c.args.from_place c.args.count in
-    let copy = copies v (vm_facts v s.runs) c.args.from c.args.from_place a i c.args.count able in
+    let items = words_copied v c.args.from.address c.args.from.place c.args.count in
+    let copy = copies v (vm_facts v s.runs) c.args.from.address c.args.from.place a i c.args.count
+    able in
     let now = c.vm_copy.new.seat.me in
     let last = c.settle.new.seat.me in
     let same = c.settle.ensures.same.1 ∙ c.vm_copy.ensures.same.1 in

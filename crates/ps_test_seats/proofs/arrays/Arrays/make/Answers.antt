@@ -1,5 +1,5 @@
 use Rattle.std.specs.Result.{is_ok}
-use Rattle.ps_ops_arrays.proofs.Made.{stands_whole}
+use Rattle.ps_ops_operands.proofs.Making.{array_stands_whole}
 use Rattle.ps_test_seats.proofs.Ready.{made_ready}
 use Rattle.ps_test_seats.proofs.arrays.Arrays.make.Goals as goal
 
@@ -11,7 +11,7 @@ invariant_of-self-in_err-push g c =
     c.self.inside.words.items c.push.new.self.items c.array_word-word.result (is_ok c.push.result)
     c.need.ensures.heap made.ensures.extends made.ensures.sound
     (c.array_word-word.ensures.held now
-    (stands_whole now made.result _ made.ensures.part made.ensures.known))
+    (array_stands_whole now made.result _ made.ensures.part made.ensures.known))
     c.push.ensures.items c.self.invariant
 
 pub invariant_of-self-2 : goal.invariant_of-self-2
@@ -22,5 +22,5 @@ invariant_of-self-2 g c =
     c.self.inside.words.items c.push.new.self.items c.array_word-word.result (is_ok c.push.result)
     c.need.ensures.heap made.ensures.extends made.ensures.sound
     (c.array_word-word.ensures.held now
-    (stands_whole now made.result _ made.ensures.part made.ensures.known))
+    (array_stands_whole now made.result _ made.ensures.part made.ensures.known))
     c.push.ensures.items c.self.invariant

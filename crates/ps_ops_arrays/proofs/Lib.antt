@@ -1,4 +1,0 @@
-pub mod ArrayReads
-pub mod AstoreLemmas
-pub mod Made
-pub mod PutLemmas

@@ -1,3 +1,0 @@
-pub mod Copies
-pub mod Searches
-pub mod StringRows
