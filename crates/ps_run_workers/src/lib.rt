@@ -16,7 +16,8 @@
 //! - Workers that ran unchecked would fill the space before it is copied, and each cycle would end in
 //!   one long hold. So they wait where they are ahead of the collector (`Pace`).
 //! - A busy program would put the flip off for ever: its roots of now are never all copied. So where
-//!   a try finds one that isn't, workers wait until what the roots of now reach is copied (`Stop`).
+//!   a try finds one that isn't, workers wait until what the roots of now reach is copied
+//!   (`Cycle::Stopped`).
 //! - The collector's thread looks whether it is called where the lock happens to be free
 //!   (`try_lock`). It may not wait for it: a worker may stand in the middle of an operator, and what
 //!   it waits for may be the collector.
@@ -41,6 +42,7 @@
 #![tactic(auto)]
 
 mod batons;
+mod cycles;
 mod gates;
 mod loops;
 mod origins;

@@ -4,7 +4,7 @@
 use crate::batons::Baton;
 use crate::origins::Origin;
 use crate::serial::SerialBaton;
-use crate::serving::{Lent, Stage};
+use crate::serving::Lent;
 use ps_core_laws::collected::CollectedMemory;
 use ps_core_laws::sides::{Collects, LoggedMemory, Works};
 use ps_ctx::deeds::Deeds;
@@ -135,20 +135,22 @@ impl<
     /// The collector's thread: it sleeps until a cycle is open or it is asked for one, takes the
     /// lock for what both sides do together, and works without it between.
     fn collect<C: Collects<M> + Works + Drop, R: Wait>(&self, rt: &R, lent: Lent<C>) {
-        let (mut lent, mut stage) = (lent, Stage::Rest);
+        let mut lent = lent;
         for _ in rt.forever() {
             let mut held = self
                 .bell
                 .wait_while(rt, self.baton.lock(rt), |baton| baton.rests());
-            stage = held.attend(&mut lent, stage);
+            held.attend(&mut lent);
+            let (over, copies) = (held.is_over(), held.waits.cycle.is_handed());
             drop(held);
             self.workers.notify_all();
-            match stage {
-                Stage::Over => return,
-                Stage::Rest => self.clear_beside(&mut lent.collector),
-                Stage::Copy | Stage::Drain | Stage::Last | Stage::Stop => {
-                    self.copy_beside(&mut lent.collector);
-                }
+            if over {
+                return;
+            }
+            if copies {
+                self.copy_beside(&mut lent.collector);
+            } else {
+                self.clear_beside(&mut lent.collector);
             }
         }
     }

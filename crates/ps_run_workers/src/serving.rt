@@ -6,6 +6,7 @@ ghost use Rattle.ps_vault.specs.Holds.{IsHeldUp};
 ghost use Rattle.ps_run_workers.specs.Batons.{GoesOn, HasEnded, IsTight, SameProgress, MayGoOn};
 
 use crate::batons::{Baton, TURNS};
+use crate::cycles::Cycle;
 use crate::origins::Origin;
 use crate::waits::Wanting;
 use ps_core_laws::Closing;
@@ -23,23 +24,6 @@ const STEPS: u32 = 65536;
 
 /// The most while a cycle is open: the collector's thread may want it.
 const STEPS_IN_CYCLE: u32 = 1024;
-
-/// How far the collector's thread is.
-#[derive(Clone, Copy, Debug, PartialEq, Eq)]
-pub(crate) enum Stage {
-    /// It waits for a cycle.
-    Rest,
-    /// It copies; it closes the logs then.
-    Copy,
-    /// It takes what is left of the logs, which are closed.
-    Drain,
-    /// It copies what the roots of a while ago reach, and tries to flip then.
-    Last,
-    /// It copies what the roots of now reach, since no worker makes a step, and flips then.
-    Stop,
-    /// The run is over.
-    Over,
-}
 
 /// What is lent to whoever has the baton: the collector, and room for the roots of all contexts.
 #[derive(Drop)]
@@ -226,58 +210,53 @@ impl<
             && self.vault.is_half_used(self.pace.kept)
             && self.vault.open_cycle()
         {
-            self.waits.end();
+            self.waits.enter(Cycle::Open);
         }
     }
 
-    /// What the collector's thread does with the baton: room for the step that wants it, and what is
-    /// next of the open cycle. The answer tells what it goes on with.
-    pub(crate) fn attend<C: Collects<M> + Works>(
-        &mut self,
-        lent: &mut Lent<C>,
-        stage: Stage,
-    ) -> Stage
+    /// What the collector's thread does with the baton: room for the step that wants it, or what is
+    /// next of the open cycle.
+    pub(crate) fn attend<C: Collects<M> + Works>(&mut self, lent: &mut Lent<C>)
         ensures goes_on { GoesOn self.old self.new }
         ensures over { IsSome self.old.outcome → self.new ≡ self.old }
     {
         if self.is_over() {
-            return Stage::Over;
+            return;
         }
         if self.waits.is_wanted() {
             self.serve(lent);
-            return Stage::Rest;
+        } else {
+            self.advance_cycle(lent);
         }
-        self.go_on(lent, stage)
     }
 
-    /// The open cycle goes on, if there is one.
-    fn go_on<C: Collects<M> + Works>(&mut self, lent: &mut Lent<C>, stage: Stage) -> Stage
+    /// The open cycle, if there is one, goes on by one arrow of the picture over `Cycle`. Where a
+    /// flip can't come at `Stopped`, the cycle is ended in this hold.
+    fn advance_cycle<C: Collects<M> + Works>(&mut self, lent: &mut Lent<C>)
         ensures { SameProgress self.old self.new }
     {
         if !self.vault.is_open() {
-            return Stage::Rest;
+            self.waits.enter(Cycle::Closed);
+            return;
         }
         self.waits.wake_full();
-        if !self.waits.handed {
-            self.vault.hand_over(&mut lent.collector, &mut lent.roots);
-            self.waits.hand();
-            let used = self.vault.used();
-            self.pace.begin(used, lent.collector.copied());
-            return Stage::Copy;
-        }
-        match stage {
-            Stage::Rest | Stage::Over | Stage::Copy => {
+        match self.waits.cycle {
+            Cycle::Closed | Cycle::Open => {
+                self.vault.hand_over(&mut lent.collector, &mut lent.roots);
+                let used = self.vault.used();
+                self.pace.begin(used, lent.collector.copied());
+                self.waits.enter(Cycle::Copying);
+            }
+            Cycle::Copying => {
                 if self.close_logs() {
-                    Stage::Drain
-                } else {
-                    Stage::Copy
+                    self.waits.enter(Cycle::Draining);
                 }
             }
-            Stage::Drain => {
+            Cycle::Draining => {
                 self.vault.hand_over(&mut lent.collector, &mut lent.roots);
-                Stage::Last
+                self.waits.enter(Cycle::Last);
             }
-            Stage::Last | Stage::Stop => self.flip(lent, stage),
+            Cycle::Last | Cycle::Stopped => self.flip(lent),
         }
     }
 
@@ -321,23 +300,22 @@ impl<
     /// The flip is tried. Where it can't come the roots of now are handed over, and workers wait
     /// until what they reach is copied. Where it can't come then either, the cycle is ended in this
     /// hold.
-    fn flip<C: Collects<M>>(&mut self, lent: &mut Lent<C>, stage: Stage) -> Stage
+    fn flip<C: Collects<M>>(&mut self, lent: &mut Lent<C>)
         requires open { self.old.story.cycle_open ≡ true }
         ensures { SameProgress self.old self.new }
     {
         if !self.may_flip(1) {
-            return Stage::Rest;
+            return;
         }
         if !self.vault.try_flip(&mut lent.collector, &mut lent.roots) {
-            if stage == Stage::Last {
+            if self.waits.cycle == Cycle::Last {
                 self.vault.hand_over(&mut lent.collector, &mut lent.roots);
-                self.waits.stopped = true;
-                return Stage::Stop;
+                self.waits.enter(Cycle::Stopped);
+                return;
             }
             self.vault.end_cycle(&mut lent.collector, &mut lent.roots);
         }
         self.rest();
-        Stage::Rest
     }
 
     /// A whole cycle, all stopped; and the step that wanted room, which is refused where it finds
@@ -375,7 +353,7 @@ impl<
     {
         let used = self.vault.used();
         self.pace.end(used);
-        self.waits.end();
+        self.waits.enter(Cycle::Closed);
     }
 
     /// The step that wanted room, behind the collector's cycle: it is refused where it finds none

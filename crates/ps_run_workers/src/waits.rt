@@ -1,6 +1,8 @@
 //! What the threads of a run leave for each other under the lock. No clause speaks of it: who waits
 //! wrongly would wait for ever, and `run` promises nothing then.
 
+use crate::cycles::Cycle;
+
 /// After so many turns in a row that a log held up, workers wait for the collector.
 const HELD_LIMIT: u32 = 32;
 
@@ -18,10 +20,8 @@ pub(crate) enum Wanting {
 #[derive(Clone, Copy, Debug)]
 pub(crate) struct Waits {
     pub(crate) wanting: Wanting,
-    /// Whether the collector was handed the roots of the open cycle.
-    pub(crate) handed: bool,
-    /// Whether workers wait until the cycle ends.
-    pub(crate) stopped: bool,
+    /// How far the collector's cycle is.
+    pub(crate) cycle: Cycle,
     /// How many turns in a row a log held up.
     held: u32,
     /// Whether one of these logs was full.
@@ -37,8 +37,7 @@ impl Waits {
     pub(crate) fn new() -> Waits {
         Waits {
             wanting: Wanting::Nothing,
-            handed: false,
-            stopped: false,
+            cycle: Cycle::Closed,
             held: 0,
             full: false,
             ahead: false,
@@ -48,7 +47,10 @@ impl Waits {
 
     /// Whether workers wait for what the collector's thread does next, in an open cycle.
     pub(crate) fn are_held(&self) -> bool {
-        self.is_wanted() || !self.handed || self.stopped || self.held >= HELD_LIMIT
+        self.is_wanted()
+            || !self.cycle.is_handed()
+            || self.cycle == Cycle::Stopped
+            || self.held >= HELD_LIMIT
     }
 
     /// Whether the collector's thread is asked for a whole cycle.
@@ -77,18 +79,16 @@ impl Waits {
         full
     }
 
-    /// The collector was handed the roots of the open cycle.
-    pub(crate) fn hand(&mut self) {
-        self.handed = true;
-        self.held = 0;
-    }
-
-    /// No cycle is open any more.
-    pub(crate) fn end(&mut self) {
-        self.handed = false;
-        self.stopped = false;
-        self.held = 0;
-        self.full = false;
+    /// The cycle is so far. Turns that a log held up are forgotten where one begins, is handed its
+    /// roots, or ends.
+    pub(crate) fn enter(&mut self, cycle: Cycle) {
+        if !cycle.is_handed() {
+            self.full = false;
+        }
+        if !(cycle.is_handed() && self.cycle.is_handed()) {
+            self.held = 0;
+        }
+        self.cycle = cycle;
     }
 
     /// What the collector's thread is asked for, which is done then.
