@@ -2,8 +2,8 @@
 //!
 //! Why so:
 //! - This crate brings together, as the tests of `ps_test_programs` do, who makes steps (`Steps`
-//!   over `Operators`) and who does the operators of the world. So runs and vaults are proved beside
-//!   the operators.
+//!   over `Operators`) and who does the operators of the world. So runs and vaults are proved
+//!   beside the operators.
 //! - What reads, compares or waits takes any reader or output (`readers`, `outputs`), so its
 //!   contracts are exact where bytes are known. The system's are not, and what is done with names,
 //!   owners and links is tried.

@@ -167,17 +167,7 @@ pub fn operate<M: Memory>(
         Operator::Undef => undef(context, runtime, attempt),
         Operator::EndDict => end_dict(context, runtime, attempt),
         Operator::ErrorDict => error_dictionary(context, runtime),
-        Operator::CurrentContext
-        | Operator::Fork
-        | Operator::Join
-        | Operator::Detach
-        | Operator::Lock
-        | Operator::Monitor
-        | Operator::Condition
-        | Operator::Wait
-        | Operator::Notify
-        | Operator::Yield
-        | Operator::VmStatus
-        | Operator::VmReclaim => unreachable!(),
+        // Those that are left to the world alone: that any other has its arm is proved.
+        _ => unreachable!(),
     }
 }
