@@ -1577,7 +1577,7 @@ def notify_row(step):
             context.status, context.awaited = RETAKING, context.awaited[:1]
 
 
-# ---- OperatorList, OperatorNames
+# ---- Operators
 
 OPERATORS = """pop exch dup copy index roll clear count mark cleartomark counttomark add sub mul idiv mod neg abs eq ne gt ge lt le and or xor not
 bitshift array [ ] string length get put getinterval putinterval aload astore forall search anchorsearch dict << >> maxlength begin end def load

@@ -12,4 +12,6 @@ pub mod Stores
 pub mod Flips
 pub mod Moves
 pub mod Collected
+pub mod Looks
+pub mod Tries
 pub mod Reached

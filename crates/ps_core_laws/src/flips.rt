@@ -9,8 +9,9 @@
 //!
 //! Why so:
 //! - A memory and its collector are traits (`sides`) said of heaps alone, so roots, vault and
-//!   workers know no seat and no table. What only a seat can say, such as each event, is in none of
-//!   its clauses.
+//!   workers know no seat and no table. Of events they see the list (`did`), and only a try to flip
+//!   says what it adds: how many, and that none stores a field (`IsFlip`). The reason why a flip
+//!   can't come is the collector's own to say (`answers`), and stands in the clauses of who calls.
 //! - How often objects were moved is a number of the space (`Space.flips`), so that each call which
 //!   leaves the space, as all of `Memory` do, is known to leave it.
 //! - A flip is described for two heaps first, so that the description serves any collector that

@@ -5,15 +5,17 @@
 
 ghost use Rattle.std.specs.Prelude.{◌≡◌};
 
-use crate::Closing;
 use crate::collected::{CollectedMemory, Counts};
 use crate::sides::{Collects, LoggedMemory, Past};
+use crate::{Closing, Flip};
 use ps_mem::Slot;
 use ps_mem::marked::Marked;
 use ps_word::words::Word;
 
 impl<M: LoggedMemory + Drop> LoggedMemory for Marked<M> {
-    fn is_open(&mut self) -> bool {
+    ghost did = { λ m. M.did m.memory };
+
+    fn is_open(&self) -> bool {
         self.memory.is_open()
     }
 
@@ -39,11 +41,15 @@ impl<M: CollectedMemory + Drop> CollectedMemory for Marked<M> {
 }
 
 impl<M: LoggedMemory + Drop, C: Collects<M>> Collects<Marked<M>> for Past<C> {
+    ghost did = { λ past m. C.did past.0 m.memory };
+
+    ghost answers = { λ past m. C.answers past.0 m.memory };
+
     fn hand_over(&mut self, memory: &mut Marked<M>, roots: &[Word]) {
         self.0.hand_over(&mut memory.memory, roots);
     }
 
-    fn try_flip(&mut self, memory: &mut Marked<M>, roots: &mut [Word]) -> bool {
+    fn try_flip(&mut self, memory: &mut Marked<M>, roots: &mut [Word]) -> Flip {
         self.0.try_flip(&mut memory.memory, roots)
     }
 

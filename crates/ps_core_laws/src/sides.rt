@@ -1,29 +1,35 @@
 //! A memory and its collector, cycle by cycle (Nettles and O'Toole, PLDI 1993): whoever makes steps
 //! has the memory, and is lent the collector for the calls that both must make.
 
-ghost use Rattle.std.specs.Prelude.{◌≡◌, ◌<◌, ℕ, true, false};
+ghost use Rattle.std.specs.Prelude.{◌≡◌, ◌<◌, ℕ, true, false, List};
+ghost use Rattle.ps_word.specs.declared.words.Word.{Word};
 ghost use Rattle.ps_record.specs.Format.{slots};
 ghost use Rattle.ps_mem.specs.Shows.{AreValues};
 ghost use Rattle.ps_mem.specs.Stands.{IsAddressed};
 ghost use Rattle.ps_core_laws.specs.MemoryLaws.{AfterClose, AfterOpen};
+ghost use Rattle.ps_core_machine.specs.declared.events.Event.{Event};
+ghost use Rattle.ps_core_laws.specs.declared.tries.Flip.{Flip};
 ghost use Rattle.ps_core_laws.specs.Collected.{IsCollected, IsExact, IsQuiet, may_open};
+ghost use Rattle.ps_core_laws.specs.Tries.{IsFlip, sides_of};
 
-use crate::Closing;
 use crate::collected::Counts;
+use crate::{Closing, Flip};
 use ps_mem::{Memory, Slot};
 use ps_word::words::Word;
 
 /// A memory whose stores are logged while a cycle is open. A collector copies it meanwhile, and no
 /// call of this trait speaks of it: only in calls that are lent both do objects move (`Collects`).
 pub trait LoggedMemory: Memory {
+    /// The events of the collector's machine that its seat has made, the newest first. Only a try to
+    /// flip tells which it adds.
+    ghost did: { Self → List Event };
+
     /// Whether a cycle is open: where none is, no log is closed. What stands has an address of 24
     /// bits.
-    fn is_open(&mut self) -> bool
-        ensures heap { Self.heap self.new ≡ Self.heap self.old }
-        ensures grants { Self.grants self.new ≡ Self.grants self.old }
-        ensures answer { result ≡ (Self.grants self.old).cycle_open }
-        ensures quiet { result ≡ false → IsQuiet (Self.grants self.old) }
-        ensures addressed { IsAddressed (Self.heap self.old) };
+    fn is_open(&self) -> bool
+        ensures answer { result ≡ (Self.grants self.now).cycle_open }
+        ensures quiet { result ≡ false → IsQuiet (Self.grants self.now) }
+        ensures addressed { IsAddressed (Self.heap self.now) };
 
     /// Opens a cycle exactly where none is open and cycles are left: no log is closed then, and no
     /// object may be filled. False: nothing has changed.
@@ -63,6 +69,13 @@ pub trait LoggedMemory: Memory {
 /// A collector of memories of one kind, in the calls that are lent the memory. What it does between
 /// them leaves the memory as it is seen (`Works`), so no clause speaks of it.
 pub trait Collects<M: LoggedMemory> {
+    /// The events that its seat has made, the newest first; of one that is inside the memory, those
+    /// that it has there.
+    ghost did: { Self → M → List Event };
+
+    /// Of a try to flip with these roots, that it comes to this: that it flips, or why it can't yet.
+    ghost answers: { Self → M → List Word → Flip → Type 0 };
+
     /// Hands roots over: the collector knows from then on whether a cycle is open, and in a cycle
     /// what they name. No object may be filled then.
     fn hand_over(&mut self, memory: &mut M, roots: &[Word])
@@ -72,18 +85,14 @@ pub trait Collects<M: LoggedMemory> {
             { fresh = λ a. false } };
 
     /// Ends the open cycle by the flip, where all is ready for it: the words of the roots are
-    /// renamed. False: nothing has changed. No clause says when all is ready.
-    fn try_flip(&mut self, memory: &mut M, roots: &mut [Word]) -> bool
+    /// renamed. `NotReady`: nothing has changed, and why.
+    fn try_flip(&mut self, memory: &mut M, roots: &mut [Word]) -> Flip
         requires values { AreValues (M.heap memory.old) roots.old }
         requires open { (M.grants memory.old).cycle_open ≡ true }
-        ensures moved { result ≡ true
-            → IsCollected (M.heap memory.old) (M.heap memory.new) roots.old roots.new }
-        ensures quiet { result ≡ true → IsQuiet (M.grants memory.new) }
-        ensures fresh { result ≡ true → (address : ℕ)
-            → (M.grants memory.new).fresh address ≡ false }
-        ensures heap { result ≡ false → M.heap memory.new ≡ M.heap memory.old }
-        ensures grants { result ≡ false → M.grants memory.new ≡ M.grants memory.old }
-        ensures roots { result ≡ false → roots.new ≡ roots.old };
+        ensures answer { Self.answers self.old memory.old roots.old result }
+        ensures flips { IsFlip result
+            (sides_of M.heap M.grants M.did Self.did memory.old self.old)
+            (sides_of M.heap M.grants M.did Self.did memory.new self.new) roots.old roots.new };
 
     /// A whole cycle, where none is open and cycles are left: just what the roots reach is moved,
     /// and they are renamed. No object may be filled then. False: nothing has changed.

@@ -93,10 +93,14 @@ pub fn load_field(words: &[u64], address: u64, field: u64) -> u64
 pub fn store_field(words: &mut Vec<u64, Global>, address: u64, field: u64, word: u64)
     ensures { words.new.items ≡ slice_set words.old.items (address + 2 + field) word }
 {
-    let _length = words.len();
+    let end = words.len() as u64;
     match field_index(address, field) {
         None => {}
-        Some(index) => store(words, index, word),
+        Some(index) => {
+            if index < end {
+                store(words, index, word);
+            }
+        }
     }
 }
 

@@ -20,7 +20,6 @@ use Rattle.ps_ctx_table.specs.Desks.{IsWorld}
 use Rattle.ps_ctx_table.specs.Moves.{plain_moves}
 use Rattle.ps_ctx.specs.declared.notes.Note.{Note}
 use Rattle.ps_ctx.specs.declared.notes.Note.TheVariants.{ShowsMemory}
-use Rattle.ps_ctx.specs.declared.runs.Next.{Next}
 use Rattle.ps_ctx.specs.Calls.{IsHeldUpAs, IsSameDesk}
 use Rattle.ps_ctx.specs.Held.{Held, IsAt, IsSteadyHeld, MayStep}
 use Rattle.ps_ctx.specs.Notes.{note_of, HasNoStatus}
@@ -132,9 +131,9 @@ pub record StepsBehind (asks : Status → Around → Scene → Asked) (identifie
 abbrev pub IsUnready : (identifier : ℕ) → Held → Type 0
 IsUnready identifier h = (w : World) → IsAt h w → is_ready w identifier ≡ false
 
--- what was told of that step; where nothing is, so many were made
+-- what was told of that step, and what it was shown; where nothing is, so many were made
 abbrev pub GoesOn : (asks : Status → Around → Scene → Asked) → (identifier slot made : ℕ)
-    → Option Next → (old new : Held) → Type 0
+    → Option (Result Note Reason × Option (ℤ × ℤ)) → (old new : Held) → Type 0
 GoesOn asks identifier slot made None old new = HasMade identifier made old new
 GoesOn asks identifier slot made (Some next) old new =
-    StepsBehind asks identifier slot made next.shown next.told old new
+    StepsBehind asks identifier slot made next.1 next.0 old new

@@ -11,7 +11,7 @@ ghost use Rattle.ps_ctx.specs.Steps.{GoesOn, IsCounted, IsUnready};
 use crate::deeds::Deeds;
 use crate::makers::Makers;
 use crate::notes::Note;
-use crate::turns::{Ran, run_of};
+use crate::turns::run_of;
 use crate::worlds::World;
 use ps_ctx_table::members::Course;
 use ps_mem::{Memory, Slot};
@@ -20,13 +20,6 @@ use ps_ops_state::lent::{Attempt, Runtime};
 use ps_step_interpreter::interprets::Interpret;
 use ps_step_outcome::batches::Batch;
 use ps_step_outcome::turned::Turned;
-
-/// What the step behind others came to, and what a `vmstatus` in it was shown.
-#[derive(Clone, Copy, Debug, PartialEq, Eq)]
-pub struct Next {
-    pub told: Result<Note, NotMade>,
-    pub shown: Option<(i32, i32)>,
-}
 
 /// A number of words as `vmstatus` shows it, and as a schedule can have it: from 1 to the greatest
 /// integer.
@@ -55,8 +48,9 @@ fn shown_by<M: Memory>(memory: &mut M, shows: bool) -> Option<(i32, i32)>
 impl World {
     /// Makes ordinary steps of a context one after another, at most so many, as long as it goes on
     /// by itself, and tells what the step behind them came to, which may call an operator on other
-    /// contexts; of a context that doesn't run, or whose call waits, that step alone. Shows says
-    /// whether `vmstatus` shows the memory just before its step, or three zeros.
+    /// contexts, and what a `vmstatus` in it was shown; of a context that doesn't run, or whose call
+    /// waits, that step alone. Shows says whether `vmstatus` shows the memory just before its step,
+    /// or three zeros.
     pub fn go_on<S: Interpret + Drop, D: Deeds + Drop, M: Memory>(
         &mut self,
         makers: &mut Makers<S, D>,
@@ -65,7 +59,7 @@ impl World {
         slot: Slot,
         most: u32,
         shows: bool,
-    ) -> Batch<Next>
+    ) -> Batch<(Result<Note, NotMade>, Option<(i32, i32)>)>
         requires some { 1 ≤ most }
         requires there { IsSome (item_at self.old.contexts.table identifier) }
         requires may { MayStep self.old.calling identifier }
@@ -75,7 +69,7 @@ impl World {
         ensures within { result.made ≤ most }
         ensures fewer { IsSome result.next → result.made < most }
         ensures shown { IfSome result.next
-            (λ next. IfOk next.told (λ note. is_some next.shown ≡ shows)) }
+            (λ next. IfOk next.0 (λ note. is_some next.1 ≡ shows)) }
         ensures ended { IsNone result.next → result.made < most → IsUnready identifier
             (held (over_of M.heap M.grants runtime.new self.new.contexts)
             self.new.calling) }
@@ -98,7 +92,7 @@ impl World {
         let told = self.step(makers, runtime, identifier, attempt, shown);
         Batch {
             made: 0,
-            next: Some(Next { told, shown }),
+            next: Some((told, shown)),
         }
     }
 
@@ -111,7 +105,7 @@ impl World {
         slot: Slot,
         most: u32,
         shows: bool,
-    ) -> Batch<Next>
+    ) -> Batch<(Result<Note, NotMade>, Option<(i32, i32)>)>
         requires course { CourseAt identifier (course_in None) self.old.contexts.table }
         requires calling { self.old.calling ≡ None }
         requires steady { IsSteadyHeld
@@ -119,7 +113,7 @@ impl World {
         ensures within { result.made ≤ most }
         ensures fewer { IsSome result.next → result.made < most }
         ensures shown { IfSome result.next
-            (λ next. IfOk next.told (λ note. is_some next.shown ≡ shows)) }
+            (λ next. IfOk next.0 (λ note. is_some next.1 ≡ shows)) }
         ensures ended { IsNone result.next → result.made < most → IsUnready identifier
             (held (over_of M.heap M.grants runtime.new self.new.contexts)
             self.new.calling) }
@@ -130,14 +124,7 @@ impl World {
             self.new.calling) }
     {
         let contexts = &mut self.contexts;
-        let Ran { run, framed } = run_of(
-            contexts,
-            identifier,
-            &mut makers.steps,
-            runtime,
-            slot,
-            most,
-        );
+        let (run, framed) = run_of(contexts, identifier, &mut makers.steps, runtime, slot, most);
         let made = run.made;
         let Some(next) = run.next else {
             if framed {
@@ -149,10 +136,7 @@ impl World {
         let turned = match next {
             Ok(turned) => turned,
             Err(reason) => {
-                let next = Next {
-                    told: Err(reason),
-                    shown: None,
-                };
+                let next = (Err(reason), None);
                 return Batch {
                     made,
                     next: Some(next),
@@ -168,7 +152,7 @@ impl World {
         let told = self.finish(turned, operators, runtime, identifier, attempt, shown);
         Batch {
             made,
-            next: Some(Next { told, shown }),
+            next: Some((told, shown)),
         }
     }
 }

@@ -33,14 +33,8 @@ pub fn turn_of<S: Interpret, M: Memory>(
     steps.step(unwinding, &mut member.context, runtime, attempt)
 }
 
-/// Ordinary steps that were made of a context, and whether it has a frame left.
-#[derive(Clone, Copy, Debug, PartialEq, Eq)]
-pub struct Ran {
-    pub run: Run,
-    pub framed: bool,
-}
-
-/// Ordinary steps of a running context, one after another, at most so many.
+/// Ordinary steps of a running context, one after another, at most so many, and whether it has a
+/// frame left.
 pub fn run_of<S: Interpret, M: Memory>(
     contexts: &mut Contexts,
     identifier: u32,
@@ -48,17 +42,17 @@ pub fn run_of<S: Interpret, M: Memory>(
     runtime: &mut Runtime<M>,
     slot: Slot,
     most: u32,
-) -> Ran
+) -> (Run, bool)
     requires course { CourseAt identifier (course_in None) contexts.old.table }
     requires steady { IsSteady (over_of M.heap M.grants runtime.old contexts.old) }
-    ensures within { result.run.made ≤ most }
-    ensures fewer { IsSome result.run.next → result.run.made < most }
+    ensures within { result.0.made ≤ most }
+    ensures fewer { IsSome result.0.next → result.0.made < most }
     ensures lends { Lends identifier
-        (RunsSo S.asks slot most result.run.made result.run.next result.framed) M.heap M.grants
+        (RunsSo S.asks slot most result.0.made result.0.next result.1) M.heap M.grants
         runtime.old runtime.new contexts.old contexts.new }
 {
     let member = contexts.table.get_mut(identifier);
     let run = steps.run(most, slot, &mut member.context, runtime);
     let framed = !member.context.frames.is_empty();
-    Ran { run, framed }
+    (run, framed)
 }

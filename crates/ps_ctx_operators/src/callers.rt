@@ -77,8 +77,6 @@ pub fn current_context<M: Memory>(
         (over_of M.heap M.grants runtime.old contexts.old)
         (over_of M.heap M.grants runtime.new contexts.new) }
 {
-    // no identifier that was made is above 2^31 - 1
-    contexts.table.made();
     let member = contexts.table.get_mut(caller);
     let outcome = identifiers::current_context(caller, &mut member.context, runtime);
     noted(Note::Nothing, outcome)

@@ -41,8 +41,6 @@ pub fn call_monitor<M: Memory>(
         caller,
         operator: WorldOperator::Monitor,
     };
-    // no identifier that was made is above 2^31 - 1
-    contexts.table.made();
     let same_attempt = attempt;
     let member = contexts.table.get_mut(caller);
     match monitors::monitor(caller, &mut member.context, runtime, attempt) {

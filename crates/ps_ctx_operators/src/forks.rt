@@ -3,6 +3,7 @@
 ghost use Rattle.std.specs.Prelude.{◌≡◌, ◌+◌, ◌<◌, ◌≤◌, ◌^◌, ◌++◌, ◌∷◌, [], ℕ, List, Some, Err};
 ghost use Rattle.std.specs.Prelude.{IfOk, length, take, drop};
 ghost use Rattle.std.specs.Option.{ForSome};
+ghost use Rattle.ps_language.specs.Limits.{operand_limit};
 ghost use Rattle.ps_ops_state.specs.Acts.{nothing_asked};
 ghost use Rattle.ps_ops_state.specs.Lent.{lent_of, IsGood};
 ghost use Rattle.ps_ctx_operators.specs.Forks.{procedure_frames, Forks, IsForked};
@@ -60,7 +61,7 @@ fn begin(begun: &mut Context, parent: &Context, count: usize, body: Part)
     requires dictionaries { begun.old.dictionaries ≡ [] }
     requires frames { begun.old.frames ≡ [] }
     requires count { count ≤ length parent.now.operands }
-    requires small { count ≤ 500 }
+    requires small { count ≤ operand_limit }
     ensures operands { begun.new.operands ≡ take count parent.now.operands }
     ensures dictionaries { begun.new.dictionaries ≡ parent.now.dictionaries }
     ensures frames { begun.new.frames ≡ procedure_frames body }

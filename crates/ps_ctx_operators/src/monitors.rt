@@ -3,6 +3,7 @@
 
 ghost use Rattle.std.specs.Prelude.{◌≡◌, ◌+◌, ◌<◌, ◌≤◌, ◌^◌, ◌++◌, ℕ, List, length, map, IfOk};
 ghost use Rattle.std.specs.Prelude.{Some};
+ghost use Rattle.ps_language.specs.Limits.{frame_limit};
 ghost use Rattle.ps_language.specs.Value.{Store};
 ghost use Rattle.ps_mem.specs.Meaning.{value_of};
 ghost use Rattle.ps_mem.specs.References.{StandsAs};
@@ -121,7 +122,7 @@ fn monitored_count(body: Part) -> usize
 /// Pushes the frames of a procedure under a lock, for which there is room; an empty procedure is
 /// not pushed.
 fn push_monitored(frames: &mut Frames, lock: u32, body: Part)
-    requires { length frames.old + monitored_count body ≤ 250 }
+    requires { length frames.old + monitored_count body ≤ frame_limit }
     ensures { frames.new ≡ monitored lock body ++ frames.old }
 {
     push_frame(frames, Frame::Monitor { lock });

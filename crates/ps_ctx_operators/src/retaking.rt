@@ -1,6 +1,6 @@
 //! Who was notified takes its lock again (PLRM2, 7.1, 8 'wait').
 
-ghost use Rattle.std.specs.Prelude.{◌<◌};
+ghost use Rattle.std.specs.Prelude.{◌<◌, ◌≤◌, length};
 ghost use Rattle.ps_ctx_table.specs.Desks.{IsSteady};
 ghost use Rattle.ps_ctx.specs.Calls.{over_of, Retakes, RetakesAt};
 ghost use Rattle.ps_ctx.specs.Held.{CourseAt};
@@ -17,7 +17,9 @@ use ps_step_outcome::turned::Turned;
 /// The address of the lock that a context waits for.
 fn awaited_lock(caller: u32, contexts: &Contexts) -> u32
     requires { RetakesAt caller contexts.now.table }
-    ensures { CourseAt caller (Course.Retaking result) contexts.now.table }
+    ensures course { CourseAt caller (Course.Retaking result) contexts.now.table }
+    // no identifier that was made is above 2^31 - 1
+    ensures within { length contexts.now.table ≤ 2147483647 }
 {
     let Some(member) = contexts.table.get(caller) else {
         unreachable!()
@@ -45,8 +47,6 @@ pub fn retake<M: Memory>(
         (over_of M.heap M.grants runtime.new contexts.new) }
 {
     let lock = awaited_lock(caller, contexts);
-    // no identifier that was made is above 2^31 - 1
-    contexts.table.made();
     if let Err(reason) = permit_records(&mut runtime.memory, attempt.slot, 1) {
         return Err(reason);
     }

@@ -1,25 +1,26 @@
 -- What the words of the first pairs stand for.
-use Rattle.std.proofs.Common.{◌≡◌, ℕ, ◌<◌, ◌^◌, Bool, true, false, List, [], ◌∷◌, ◌++◌, map, Some, refl, sym, ap, ◌∙◌, arith, subst, ◌&&◌}
+use Rattle.std.proofs.Common.{◌≡◌, ℕ, ◌<◌, ◌^◌, Bool, true, false, List, [], ◌∷◌, ◌++◌, map, Some, refl, sym, ap, ◌∙◌, arith, subst, ◌&&◌, ◌+◌}
 use Rattle.std.specs.Prelude.{slice_get, codes}
 use Rattle.std.specs.List.{AllByRecursion}
 use Rattle.std.proofs.lemmas.List.{map-append}
 use Rattle.ps_language.specs.declared.kinds.Kind.TheVariants.{Dictionary as DictionaryKind}
 use Rattle.ps_language.specs.declared.operators.Operator.{Operator as OperatorName}
-use Rattle.ps_language.specs.OperatorList.{every_operator}
-use Rattle.ps_language.specs.OperatorNames.{operator_name}
+use Rattle.ps_language.specs.Operators.{every_operator}
+use Rattle.ps_language.specs.Operators.{operator_name}
 use Rattle.ps_language.specs.Value.{name_value, dictionary_value, Store}
 use Rattle.ps_language.specs.Readers.{literal, literal_name}
 use Rattle.ps_language.specs.Dictionaries.{put_pairs}
 use Rattle.ps_language.specs.Equality.{same_key}
 use Rattle.ps_language.specs.StepErrors.{new_error_pairs}
 use Rattle.ps_language.specs.Worlds.{operator_pair, value_pairs, system_pairs, first_names}
-use Rattle.ps_word.specs.OperatorNumbers.{operator_number}
+use Rattle.ps_language.specs.Operators.{operator_number}
 use Rattle.ps_word.specs.declared.words.Word.{Word}
 use Rattle.ps_word.specs.declared.values.Content.{Content}
 use Rattle.ps_word.specs.declared.values.Content.TheVariants.{Null, Boolean, Name, Operator, Dictionary}
 use Rattle.ps_word.specs.declared.values.Value.{Value as WordValue}
 use Rattle.ps_word.specs.Format.{IsContent, IsInFormat, content_in, value_in, is_body}
-use Rattle.ps_word.proofs.Packing.{operator_at-number, operator_number-below, value_in-packed, IsWord-packed}
+use Rattle.ps_language.proofs.Numbers.{operator_at-number, operator_number-below}
+use Rattle.ps_word.proofs.Packing.{value_in-packed, IsWord-packed}
 use Rattle.ps_mem.specs.Heap.{Heap, birth_at}
 use Rattle.ps_mem.specs.Meaning.{value_of, what_of}
 use Rattle.ps_mem.specs.References.{StandsAs, IsKnown, IsKnownContent}
@@ -138,19 +139,19 @@ operator_format : (operator : OperatorName)
 operator_format operator = record { content = tt; literal_body = refl }
 
 operator_at : (operator : OperatorName)
-    → slice_get first_names (operator_number operator) ≡ Some (operator_name operator)
+    → slice_get first_names (35 + operator_number operator) ≡ Some (operator_name operator)
 operator_at operator =
     operator_first (operator_number operator) (operator_number-below operator)
     ∙ ap (λ o. Some (operator_name o)) (operator_at-number operator)
 
-operator_few : (operator : OperatorName) → operator_number operator < 65535
+operator_few : (operator : OperatorName) → 35 + operator_number operator < 65535
 operator_few operator = let below = operator_number-below operator in omega (arith, below)
 
 operators_met : (births : ℕ → ℕ) (operators : List OperatorName)
     → map (pair_of births first_names) (map operator_words operators) ≡ map operator_pair operators
 operators_met births [] = refl
 operators_met births (operator ∷ operators) = λ i.
-    named-pair (operator_number operator) (Operator operator) true (operator_name operator)
+    named-pair (35 + operator_number operator) (Operator operator) true (operator_name operator)
     (operator_at operator) (operator_format operator) (operator_few operator) first_names
     begin births i
     ∷ operators_met births operators i
@@ -177,16 +178,16 @@ module _ (system user : ℕ) (system_below : system < 2 ^ 24) (user_below : user
       → map (pair_of births first_names) (value_words system user) ≡ value_pairs
   unfolding first_names
   values_met births first second = λ i.
-      named-pair 99 (Boolean true) false _ refl (plain (Boolean true) tt refl) (omega arith)
+      named-pair 30 (Boolean true) false _ refl (plain (Boolean true) tt refl) (omega arith)
       first_names begin births i
-      ∷ named-pair 100 (Boolean false) false _ refl (plain (Boolean false) tt refl) (omega arith)
+      ∷ named-pair 31 (Boolean false) false _ refl (plain (Boolean false) tt refl) (omega arith)
       first_names begin births i
-      ∷ named-pair 101 Null false _ refl (plain Null tt refl) (omega arith) first_names begin
+      ∷ named-pair 32 Null false _ refl (plain Null tt refl) (omega arith) first_names begin
       births i
-      ∷ (named-pair 102 (Dictionary system) false _ refl (plain (Dictionary system) system_below
+      ∷ (named-pair 33 (Dictionary system) false _ refl (plain (Dictionary system) system_below
       refl) (omega arith) first_names begin births
       ∙ ap (λ n. (literal_name (codes "systemdict"), literal (dictionary_value n))) first) i
-      ∷ (named-pair 103 (Dictionary user) false _ refl (plain (Dictionary user) user_below refl)
+      ∷ (named-pair 34 (Dictionary user) false _ refl (plain (Dictionary user) user_below refl)
       (omega arith) first_names begin births
       ∙ ap (λ n. (literal_name (codes "userdict"), literal (dictionary_value n))) second) i
       ∷ []
@@ -205,20 +206,20 @@ module _ (system user : ℕ) (system_below : system < 2 ^ 24) (user_below : user
   system-held h system_stands user_stands =
       all_words (IsValue h) (system_words system user)
       (operators_all (Held h)
-      (λ operator. named-held h (operator_number operator) (Operator operator) true
+      (λ operator. named-held h (35 + operator_number operator) (Operator operator) true
       (operator_few operator) (operator_format operator) tt refl) every_operator
       (value_words system user) (
-        named-held h 99 (Boolean true) false (omega arith) (plain (Boolean true) tt refl) tt refl,
+        named-held h 30 (Boolean true) false (omega arith) (plain (Boolean true) tt refl) tt refl,
         (
-          named-held h 100 (Boolean false) false (omega arith) (plain (Boolean false) tt refl) tt
+          named-held h 31 (Boolean false) false (omega arith) (plain (Boolean false) tt refl) tt
               refl,
           (
-            named-held h 101 Null false (omega arith) (plain Null tt refl) tt refl,
+            named-held h 32 Null false (omega arith) (plain Null tt refl) tt refl,
             (
-              named-held h 102 (Dictionary system) false (omega arith)
+              named-held h 33 (Dictionary system) false (omega arith)
                   (plain (Dictionary system) system_below refl) system_stands refl,
               (
-                named-held h 103 (Dictionary user) false (omega arith)
+                named-held h 34 (Dictionary user) false (omega arith)
                     (plain (Dictionary user) user_below refl) user_stands refl,
                 tt,
               ),
@@ -231,20 +232,20 @@ module _ (system user : ℕ) (system_below : system < 2 ^ 24) (user_below : user
       → AllByRecursion (Within births first_names s) (value_words system user)
   unfolding first_names
   values_within births s = (
-    named-within 99 (Boolean true) false _ refl (plain (Boolean true) tt refl) (omega arith)
+    named-within 30 (Boolean true) false _ refl (plain (Boolean true) tt refl) (omega arith)
         first_names begin births s tt,
     (
-      named-within 100 (Boolean false) false _ refl (plain (Boolean false) tt refl) (omega arith)
+      named-within 31 (Boolean false) false _ refl (plain (Boolean false) tt refl) (omega arith)
           first_names begin births s tt,
       (
-        named-within 101 Null false _ refl (plain Null tt refl) (omega arith) first_names begin
+        named-within 32 Null false _ refl (plain Null tt refl) (omega arith) first_names begin
             births s tt,
         (
-          named-within 102 (Dictionary system) false _ refl
+          named-within 33 (Dictionary system) false _ refl
               (plain (Dictionary system) system_below refl) (omega arith) first_names begin births
               s tt,
           (
-            named-within 103 (Dictionary user) false _ refl
+            named-within 34 (Dictionary user) false _ refl
                 (plain (Dictionary user) user_below refl) (omega arith) first_names begin births s
                 tt,
             tt,
@@ -260,7 +261,7 @@ module _ (system user : ℕ) (system_below : system < 2 ^ 24) (user_below : user
   system-within h s =
       all_words (IsWithin (birth_at h) first_names s) (system_words system user)
       (operators_all (Within (birth_at h) first_names s)
-      (λ operator. named-within (operator_number operator) (Operator operator) true
+      (λ operator. named-within (35 + operator_number operator) (Operator operator) true
       (operator_name operator) (operator_at operator) (operator_format operator)
       (operator_few operator) first_names begin (birth_at h) s tt) every_operator
       (value_words system user) (values_within (birth_at h) s))
@@ -274,10 +275,10 @@ system-put = refl
 
 pub error-held : (h : Heap) → AreValues h (words_of_pairs error_words)
 error-held h = all_words (IsValue h) error_words (
-  named-held h 131 (Boolean false) false (omega arith) (plain (Boolean false) tt refl) tt refl,
+  named-held h 27 (Boolean false) false (omega arith) (plain (Boolean false) tt refl) tt refl,
   (
-    named-held h 132 Null false (omega arith) (plain Null tt refl) tt refl,
-    (named-held h 133 Null false (omega arith) (plain Null tt refl) tt refl, tt),
+    named-held h 28 Null false (omega arith) (plain Null tt refl) tt refl,
+    (named-held h 29 Null false (omega arith) (plain Null tt refl) tt refl, tt),
   ),
 )
 
@@ -285,22 +286,22 @@ module _ (names : List (List ℕ)) (met : BeginWithFirst names) where
   pub error-met : (births : ℕ → ℕ) → map (pair_of births names) error_words ≡ new_error_pairs
   unfolding first_names
   error-met births = λ i.
-      named-pair 131 (Boolean false) false _ refl (plain (Boolean false) tt refl) (omega arith)
+      named-pair 27 (Boolean false) false _ refl (plain (Boolean false) tt refl) (omega arith)
       names met births i
-      ∷ named-pair 132 Null false _ refl (plain Null tt refl) (omega arith) names met births i
-      ∷ named-pair 133 Null false _ refl (plain Null tt refl) (omega arith) names met births i
+      ∷ named-pair 28 Null false _ refl (plain Null tt refl) (omega arith) names met births i
+      ∷ named-pair 29 Null false _ refl (plain Null tt refl) (omega arith) names met births i
       ∷ []
 
   errors_within : (births : ℕ → ℕ) (s : Store)
       → AllByRecursion (Within births names s) error_words
   unfolding first_names
   errors_within births s = (
-    named-within 131 (Boolean false) false _ refl (plain (Boolean false) tt refl) (omega arith)
+    named-within 27 (Boolean false) false _ refl (plain (Boolean false) tt refl) (omega arith)
         names met births s tt,
     (
-      named-within 132 Null false _ refl (plain Null tt refl) (omega arith) names met births s tt,
+      named-within 28 Null false _ refl (plain Null tt refl) (omega arith) names met births s tt,
       (
-        named-within 133 Null false _ refl (plain Null tt refl) (omega arith) names met births s
+        named-within 29 Null false _ refl (plain Null tt refl) (omega arith) names met births s
             tt,
         tt,
       ),

@@ -3,8 +3,7 @@ use Rattle.std.proofs.Common.{◌≡◌, ℕ, zero, suc, ◌+◌, ◌*◌, ◌<�
 use Rattle.std.specs.Prelude.{slice_index_or, get_or}
 use Rattle.std.proofs.lemmas.List.{length-map, length-take-le, map-append, take_all}
 use Rattle.ps_language.specs.declared.operators.Operator.TheVariants.{Pop}
-use Rattle.ps_language.specs.OperatorList.{every_operator}
-use Rattle.ps_word.specs.OperatorNumbers.{operator_number}
+use Rattle.ps_language.specs.Operators.{every_operator, operator_count, operator_number}
 use Rattle.ps_word.specs.declared.words.Word.{Word}
 use Rattle.ps_word.specs.declared.values.Content.TheVariants.{Name, Operator}
 use Rattle.ps_mem.specs.Shows.{words_of_pairs}
@@ -31,16 +30,16 @@ mapped f [] i a b below = absurd (omega (arith, below))
 mapped f (x ∷ xs) zero a b below = refl
 mapped f (x ∷ xs) (suc i) a b below = mapped f xs i a b (omega (arith, below))
 
-all_numbers : map operator_number every_operator ≡ counting 0 99
+all_numbers : map operator_number every_operator ≡ counting 0 operator_count
 all_numbers = refl
 
-many : length every_operator ≡ 99
+many : length every_operator ≡ operator_count
 many = refl
 
-pub number-of : (i : ℕ) → i < 99 → operator_number (slice_index_or every_operator i Pop) ≡ i
+pub number-of : (i : ℕ) → i < operator_count → operator_number (slice_index_or every_operator i Pop) ≡ i
 number-of i below =
     sym (mapped operator_number every_operator i Pop 0 (omega (arith, below, many)))
-    ∙ (ap (λ ns. get_or ns i 0) all_numbers ∙ (counted 0 99 i 0 below ∙ (let same : 0 + i ≡ i = omega arith in same)))
+    ∙ (ap (λ ns. get_or ns i 0) all_numbers ∙ (counted 0 operator_count i 0 below ∙ (let same : 0 + i ≡ i = omega arith in same)))
 
 -- ---- pushed
 
@@ -48,18 +47,18 @@ number-of i below =
 abbrev pub pushed : ℕ → List Word
 pushed count = words_of_pairs (map operator_words (take count every_operator))
 
-pub pushed-long : (count : ℕ) → count ≤ 99 → length (pushed count) ≡ 2 * count
+pub pushed-long : (count : ℕ) → count ≤ operator_count → length (pushed count) ≡ 2 * count
 pushed-long count below =
     length-words_of_pairs (map operator_words (take count every_operator))
     ∙ ap (λ n. 2 * n) (length-map (take count every_operator) operator_words
     ∙ length-take-le count every_operator (omega (arith, below, many)))
 
-pub pushed-next : (i : ℕ) → i < 99
-    → pushed i ++ word_of (Name i) false
+pub pushed-next : (i : ℕ) → i < operator_count
+    → pushed i ++ word_of (Name (35 + i)) false
     ∷ word_of (Operator (slice_index_or every_operator i Pop)) true ∷ [] ≡ pushed (i + 1)
 pushed-next i below =
     let operator = slice_index_or every_operator i Pop in
-    ap (λ n. pushed i ++ word_of (Name n) false ∷ word_of (Operator operator) true ∷ [])
+    ap (λ n. pushed i ++ word_of (Name (35 + n)) false ∷ word_of (Operator operator) true ∷ [])
     (sym (number-of i below))
     ∙ (sym (words-append (map operator_words (take i every_operator))
     (operator_words operator ∷ []))
@@ -68,13 +67,16 @@ pushed-next i below =
     (slice_get-get_or every_operator i Pop (omega (arith, below, many))))
     ∙ map-append operator_words (take i every_operator) (operator ∷ []))))
 
-pub pushed-all : (count : ℕ) → 99 ≤ count
+pub pushed-all : (count : ℕ) → operator_count ≤ count
     → pushed count ≡ words_of_pairs (map operator_words every_operator)
 pushed-all count all = ap (λ os. words_of_pairs (map operator_words os))
     (take_all count every_operator (omega (arith, all, many)))
 
-pub operators-long : length (words_of_pairs (map operator_words every_operator)) ≡ 198
-operators-long = sym (ap length (pushed-all 99 (omega arith))) ∙ pushed-long 99 (omega arith)
+pub operators-long : length (words_of_pairs (map operator_words every_operator))
+    ≡ 2 * operator_count
+operators-long =
+    sym (ap length (pushed-all operator_count (omega arith)))
+    ∙ pushed-long operator_count (omega arith)
 
 pub system-pushed : (system user : ℕ)
     → words_of_pairs (map operator_words every_operator) ++ words_of_pairs (value_words system user)

@@ -1,7 +1,8 @@
 -- The first dictionaries: what they keep of one another, and the store that they are.
-use Rattle.std.proofs.Common.{◌≡◌, ℕ, List, [], ◌∷◌, length, refl, sym, ap, ◌∙◌}
+use Rattle.std.proofs.Common.{◌≡◌, ℕ, List, [], ◌∷◌, length, refl, sym, ap, ◌∙◌, ◌+◌, ◌*◌}
 use Rattle.ps_language.specs.declared.access.Access.TheVariants.{ReadOnly}
 use Rattle.ps_language.specs.declared.kinds.Kind.{Kind}
+use Rattle.ps_language.specs.Operators.{operator_count}
 use Rattle.ps_language.specs.Value.{Value, dictionary_object, Store}
 use Rattle.ps_language.specs.Access.{empty_dictionary, dictionary_at, with_dictionary}
 use Rattle.ps_language.specs.Dictionaries.{put_pairs}
@@ -72,6 +73,7 @@ store-made first second pairs one two are =
 
 -- ---- how many words the pairs of systemdict are
 
-pub system-long : (system user : ℕ) → length (words_of_pairs (system_words system user)) ≡ 208
+pub system-long : (system user : ℕ)
+    → length (words_of_pairs (system_words system user)) ≡ 2 * operator_count + 10
 unfolding system_words
 system-long system user = refl

@@ -9,6 +9,7 @@ ghost use Rattle.ps_mem.specs.Keeps.{Extends};
 ghost use Rattle.ps_mem.specs.References.{StandsAs};
 ghost use Rattle.ps_mem.specs.Shows.{IsSound, Shows};
 ghost use Rattle.ps_ops_operands.specs.FirstNames.{BeginWithFirst};
+ghost use Rattle.ps_ctx_start.specs.declared.words.TheConstants.{SYSTEM_WORDS};
 ghost use Rattle.ps_ctx_start.specs.Starts.{IsEmptyHeap, AreFirst};
 
 use crate::words::{error_words, push_system_words};
@@ -65,7 +66,7 @@ pub(crate) fn make_dictionaries<M: Memory>(
     requires words { 528 ≤ (M.grants memory.old).words }
     requires births { 3 ≤ (M.grants memory.old).births }
     requires scratch { scratch.old.items ≡ [] }
-    requires room { 208 ≤ vec_capacity scratch.old }
+    requires room { SYSTEM_WORDS ≤ vec_capacity scratch.old }
     ensures first { AreFirst (M.heap memory.new) result }
     ensures scratch { scratch.new.items ≡ [] }
     ensures space { (M.heap memory.new).space ≡ (M.heap memory.old).space }

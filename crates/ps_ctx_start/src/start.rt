@@ -4,6 +4,7 @@ ghost use Rattle.std.specs.Prelude.{◌≡◌, ◌≤◌, ◌<◌, ◌^◌, [], 
 ghost use Rattle.ps_language.specs.Worlds.{first_names};
 ghost use Rattle.ps_mem.specs.Heap.{SameLogs};
 ghost use Rattle.ps_ops_state.specs.Lent.{lent, IsEmpty};
+ghost use Rattle.ps_ctx_start.specs.declared.words.TheConstants.{SYSTEM_WORDS};
 ghost use Rattle.ps_ctx_start.specs.Starts.{IsEmptyHeap, IsStartReason, Starts};
 ghost use Rattle.ps_ctx_start.specs.Words as pairs;
 
@@ -85,7 +86,7 @@ fn first_shared<'a>(
     ensures printed { IfOk result (λ shared. shared.printed.bytes ≡ []) }
     ensures most { IfOk result (λ shared. shared.printed.most ≡ setup.output) }
     ensures scratch { IfOk result (λ shared. IsEmpty shared.scratch) }
-    ensures room { IfOk result (λ shared. 208 ≤ vec_capacity shared.scratch.words) }
+    ensures room { IfOk result (λ shared. SYSTEM_WORDS ≤ vec_capacity shared.scratch.words) }
 {
     let names = Names::with_first(alloc, setup.keys)?;
     let words = Vec::with_capacity(alloc, SYSTEM_WORDS)?;

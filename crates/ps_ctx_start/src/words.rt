@@ -1,38 +1,23 @@
 //! The pairs of the first dictionaries as words (PLRM2, 3.7, 3.10).
 
 ghost use Rattle.std.specs.Prelude.{◌≡◌, ◌+◌, ◌≤◌, ◌<◌, ◌^◌, ◌++◌, [], ◌∷◌, true, false, length, map, vec_capacity};
-ghost use Rattle.ps_language.specs.OperatorList.{every_operator};
+ghost use Rattle.ps_language.specs.Operators.{every_operator};
 ghost use Rattle.ps_word.specs.Format.{IsInFormat};
 ghost use Rattle.ps_mem.specs.Shows.{words_of_pairs};
 ghost use Rattle.ps_ctx_start.specs.Words as pairs;
 
-use ps_word::operators::operator_of;
+use ps_language::operators::{OPERATORS, operator_of};
+use ps_names::first::{
+    COMMAND, ERRORNAME, FALSE, FIRST_OPERATOR, NEWERROR, NULL, SYSTEMDICT, TRUE, USERDICT,
+};
 use ps_word::values::{Content, Value};
 use ps_word::words::Word;
 
+/// How many words the pairs of the operators are.
+const OPERATOR_WORDS: usize = 2 * OPERATORS as usize;
+
 /// How many words the pairs of systemdict are.
-pub const SYSTEM_WORDS: usize = 208;
-
-/// How many operators there are; the name of each has its number.
-const OPERATORS: u8 = 99;
-
-/// The numbers of the other names that systemdict has.
-const TRUE: u16 = 99;
-
-const FALSE: u16 = 100;
-
-const NULL: u16 = 101;
-
-const SYSTEMDICT: u16 = 102;
-
-const USERDICT: u16 = 103;
-
-/// The numbers of the keys of `$error`.
-const NEWERROR: u16 = 131;
-
-const ERRORNAME: u16 = 132;
-
-const COMMAND: u16 = 133;
+pub const SYSTEM_WORDS: usize = OPERATOR_WORDS + 10;
 
 /// The word of a content.
 pub fn word_of(content: Content, executable: bool) -> Word
@@ -69,13 +54,13 @@ fn push_pair(words: &mut Vec<Word>, number: u16, value: Word)
 /// Pushes the pairs of the operators, by their numbers, onto an empty list that has room.
 fn push_operators(words: &mut Vec<Word>)
     requires empty { words.old.items ≡ [] }
-    requires room { 198 ≤ vec_capacity words.old }
+    requires room { OPERATOR_WORDS ≤ vec_capacity words.old }
     ensures words { words.new.items ≡ words_of_pairs (map pairs.operator_words every_operator) }
     ensures capacity { vec_capacity words.new ≡ vec_capacity words.old }
 {
     for number in 0..OPERATORS {
         let operator = word_of(Content::Operator(operator_of(number)), true);
-        push_pair(words, number as u16, operator);
+        push_pair(words, FIRST_OPERATOR + number as u16, operator);
     }
 }
 
@@ -83,7 +68,7 @@ fn push_operators(words: &mut Vec<Word>)
 /// then the values, of which two refer to systemdict and userdict.
 pub fn push_system_words(words: &mut Vec<Word>, system: u32, user: u32)
     requires empty { words.old.items ≡ [] }
-    requires room { 208 ≤ vec_capacity words.old }
+    requires room { SYSTEM_WORDS ≤ vec_capacity words.old }
     requires system { system < 2 ^ 24 }
     requires user { user < 2 ^ 24 }
     ensures words { words.new.items ≡ words_of_pairs (pairs.system_words system user) }

@@ -483,3 +483,12 @@ module _ {A : Type 0} (f : A → A) where
       ap₂ (λ items one. set items i one) are changed
       ∙ (changed_next list i item within (subst (λ items. item ≡ get_or items i item) are is)
       ∙ ap (λ n. map f (take n list) ++ drop n list) (sym next))
+
+-- no identifier that was made is above the limit
+pub made-within : {A : Type 0} (seats : List ℕ) (items : List A) (made : ℕ)
+    (now : List (Option A)) → listed seats items made ≡ now → AreSeats seats items made
+    → length now ≤ 2147483647
+made-within seats items made now is are =
+    let long = ap length (sym is) ∙ length-listed seats items made in
+    let within = are.within in
+    omega (arith, long, within)

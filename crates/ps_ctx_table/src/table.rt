@@ -102,7 +102,8 @@ impl<T> Table<T> {
 
     /// The item of an identifier, unless it is gone.
     pub fn get(&self, identifier: u32) -> Option<&T>
-        ensures { option_map (λ item. item.now) result ≡ item_at self.now identifier }
+        ensures item { option_map (λ item. item.now) result ≡ item_at self.now identifier }
+        ensures within { length self.now ≤ 2147483647 }
     {
         match place_of(&self.identifiers, identifier) {
             Ok(place) => Some(&self.items[place]),
@@ -115,6 +116,8 @@ impl<T> Table<T> {
         requires { IsSome (item_at self.old identifier) }
         ensures* writes_back { sem 𝓛 (lends_item T.row identifier self.entry result) }
         ensures value { Some result.now ≡ item_at self.old identifier }
+        // no identifier that was made is above 2^31 - 1
+        ensures within { length self.old ≤ 2147483647 }
     {
         let place = match place_of(&self.identifiers, identifier) {
             Ok(place) => place,

@@ -190,6 +190,16 @@ held-all P Q (pair ∷ pairs) all also = (
   held-all P Q pairs all.1 also.1,
 )
 
+-- so many pairs, by the words of a whole body with this capacity, are those of both put together
+pub record IsWritten (h : Heap) (to from n c : ℕ) (ws : List Word) : Type 0 where
+  pub pairs : take n (pairs_of_words ws) ≡ merged_at h to from
+  pub count : n ≡ length (take n (pairs_of_words ws))
+  pub room : n ≤ c
+  pub held : AreValues h (words_of_pairs (take n (pairs_of_words ws)))
+  pub words : ws ≡ whole_body (birth_at h) c (take n (pairs_of_words ws))
+  pub within : (names : List (List ℕ)) (s : Store) → Shows h names s
+      → AreWithin h names s (words_of_pairs (take n (pairs_of_words ws)))
+
 module _ (h : Heap) (sound : IsSound h) (to from : ℕ) (target : StandsAs h DictionaryKind to 4)
     (source : StandsAs h DictionaryKind from 4) where
   abbrev both : List (Word × Word)
@@ -286,25 +296,22 @@ module _ (h : Heap) (sound : IsSound h) (to from : ℕ) (target : StandsAs h Dic
 
   module _ (n c : ℕ) (ws : List Word) (is : ws ≡ whole_body (birth_at h) c both)
       (count : n ≡ length both) (room : n ≤ c) where
-    pub written-pairs : take n (pairs_of_words ws) ≡ both
+    written-pairs : take n (pairs_of_words ws) ≡ both
     written-pairs =
         ap (λ xs. take n (pairs_of_words xs)) is
         ∙ (ap (λ m. take m (pairs_of_words (whole_body (birth_at h) c both))) count
         ∙ whole-pairs (birth_at h) c both (omega (arith, count, room)))
 
-    pub written-count : n ≡ length (take n (pairs_of_words ws))
-    written-count = count ∙ sym (ap length written-pairs)
-
-    pub written-values : AreValues h (words_of_pairs (take n (pairs_of_words ws)))
-    written-values = subst (λ ps. AreValues h (words_of_pairs ps)) (sym written-pairs) both-values
-
-    pub written-words : ws ≡ whole_body (birth_at h) c (take n (pairs_of_words ws))
-    written-words = is ∙ ap (whole_body (birth_at h) c) (sym written-pairs)
-
-    pub written-within : (names : List (List ℕ)) (s : Store) → Shows h names s
-        → AreWithin h names s (words_of_pairs (take n (pairs_of_words ws)))
-    written-within names s shows = subst (λ ps. AreWithin h names s (words_of_pairs ps))
-        (sym written-pairs) (both-within names s shows)
+    pub written : IsWritten h to from n c ws
+    written = record {
+      pairs = written-pairs;
+      count = count ∙ sym (ap length written-pairs);
+      room = room;
+      held = subst (λ ps. AreValues h (words_of_pairs ps)) (sym written-pairs) both-values;
+      words = is ∙ ap (whole_body (birth_at h) c) (sym written-pairs);
+      within = λ names s shows. subst (λ ps. AreWithin h names s (words_of_pairs ps))
+          (sym written-pairs) (both-within names s shows);
+    }
 
   -- ---- what is planned for them
 

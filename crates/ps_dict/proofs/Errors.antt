@@ -60,6 +60,22 @@ words-back (pair ∷ pairs) = ap (λ ps. pair ∷ ps) (words-back pairs)
 
 -- ---- the entries
 
+-- the store that is shown before the pairs that wait are added, and what it is after it
+pub record ErrorShown (h now : Heap) (a : ℕ) (entries : ErrorEntries)
+    (waiting : List (Word × Word)) (names : List (List ℕ)) (s : Store) : Type 0 where
+  pub before : Store
+  pub shown : Shows now names before
+  pub within : AreWithin now names before (words_of_pairs waiting)
+  pub after :
+      with_dictionary before (birth_at now a)
+      (record (dictionary_at before (birth_at now a)) {
+        pairs = (dictionary_at before (birth_at now a)).pairs
+            ++ map (pair_of (birth_at now) names) (pairs_of_words (words_of_pairs waiting));
+      }) ≡
+      with_dictionary s (birth_at h a)
+      (with_entries (map (pair_of (birth_at h) names) (entry_pairs entries))
+      (dictionary_at s (birth_at h a)))
+
 module _ (h : Heap) (a : ℕ) (known : StandsAs h DictionaryKind a 4) (sound : IsSound h)
     (entries : ErrorEntries) (plan : ErrorPlan) (planned : plan ≡ error_plan_at h a entries)
     (held : AreValues h (words_of_pairs (entry_pairs entries))) where
@@ -240,15 +256,14 @@ module _ (h : Heap) (a : ℕ) (known : StandsAs h DictionaryKind a 4) (sound : I
               plan.command (second-entered.places entries.command.0 ∙ third-place) plan.room
               plan-full)
 
-          -- the store that is shown before the pairs that wait are added, and after it
-          pub store-before : Store
+          store-before : Store
           store-before = with_dictionary s (birth_at h a) three-shown.d
 
-          pub shown-before : Shows h3 names store-before
+          shown-before : Shows h3 names store-before
           unfolding store-before
           shown-before = three-shown.shown
 
-          pub within-before : AreWithin h3 names store-before (words_of_pairs waiting3)
+          within-before : AreWithin h3 names store-before (words_of_pairs waiting3)
           unfolding store-before
           within-before = all_words (IsWithin (birth_at h3) names store-before) waiting3
               (all-third (λ (pair : Word × Word). IsWithin (birth_at h3) names store-before pair.0
@@ -266,31 +281,26 @@ module _ (h : Heap) (a : ℕ) (known : StandsAs h DictionaryKind a 4) (sound : I
               into = within-now h a known sound names s shows distinct h3 third-entered
                   (entry_pairs entries) waiting3 three-shown
 
-          pub store-after :
-              with_dictionary store-before (birth_at h3 a)
-              (record (dictionary_at store-before (birth_at h3 a)) {
-                pairs = (dictionary_at store-before (birth_at h3 a)).pairs
-                    ++ map (pair_of (birth_at h3) names)
-                    (pairs_of_words (words_of_pairs waiting3));
-              }) ≡
-              with_dictionary s (birth_at h a)
-              (with_entries (map (pair_of (birth_at h) names) (entry_pairs entries))
-              (dictionary_at s (birth_at h a)))
+          pub error-shown : ErrorShown h h3 a entries waiting3 names s
           unfolding store-before
-          store-after =
-              let d = three-shown.d in
-              with-now h a known sound names s shows distinct h3 third-entered
-              (entry_pairs entries) waiting3 three-shown _
-              ∙ ap (with_dictionary s (birth_at h a))
-              (ap (λ (x : DictionaryValue). record x {
-                pairs = x.pairs
-                    ++ map (pair_of (birth_at h3) names) (pairs_of_words (words_of_pairs waiting3));
-              })
-              (dictionary-now h a known sound names s shows distinct h3 third-entered
-              (entry_pairs entries) waiting3 three-shown)
-              ∙ (ap (λ (births : ℕ → ℕ). record d {
-                pairs = d.pairs
-                    ++ map (pair_of births names) (pairs_of_words (words_of_pairs waiting3));
-              }) third-entered.births
-              ∙ (ap (λ ps. record d { pairs = d.pairs ++ map (pair_of (birth_at h) names) ps })
-              (words-back waiting3) ∙ sym three-shown.is)))
+          error-shown = let d = three-shown.d in record {
+            before = store-before;
+            shown = shown-before;
+            within = within-before;
+            after = with-now h a known sound names s shows distinct h3 third-entered
+                (entry_pairs entries) waiting3 three-shown _
+                ∙ ap (with_dictionary s (birth_at h a))
+                (ap (λ (x : DictionaryValue). record x {
+                  pairs = x.pairs
+                      ++ map (pair_of (birth_at h3) names)
+                      (pairs_of_words (words_of_pairs waiting3));
+                })
+                (dictionary-now h a known sound names s shows distinct h3 third-entered
+                (entry_pairs entries) waiting3 three-shown)
+                ∙ (ap (λ (births : ℕ → ℕ). record d {
+                  pairs = d.pairs
+                      ++ map (pair_of births names) (pairs_of_words (words_of_pairs waiting3));
+                }) third-entered.births
+                ∙ (ap (λ ps. record d { pairs = d.pairs ++ map (pair_of (birth_at h) names) ps })
+                (words-back waiting3) ∙ sym three-shown.is)));
+          }

@@ -24,6 +24,13 @@ use Rattle.ps_dict.proofs.NewBodies.{blank, over, known_keys}
 use Rattle.ps_dict.proofs.Pairs.{all_words, drop-front, length-words_of_pairs, pairs-of_words_of_pairs, take-front_all, words-append}
 use Rattle.ps_dict.proofs.Shapes.{length-pairs, pair-words, pairs-values, pairs-within, pairs-shown}
 
+-- a body whose index is free everywhere
+pub record HasFreeIndex (k : Heap) (b c : ℕ) : Type 0 where
+  pub stands : IsKind BodyKind (object_at k b)
+  pub fields : length (fields_at k b) ≡ 3 * c
+  pub values : AreValues k (fields_at k b)
+  pub free : drop (2 * c) (fields_at k b) ≡ replicate c zero_word
+
 module _ (h : Heap) (a : ℕ) (known : StandsAs h DictionaryKind a 4) (sound : IsSound h)
     (k v : Word) where
   abbrev pub more_pairs : List (Word × Word)
@@ -117,17 +124,17 @@ module _ (h : Heap) (a : ℕ) (known : StandsAs h DictionaryKind a 4) (sound : I
     paired-keeps : Keeps h paired
     paired-keeps = Keeps-Extends h paired paired-new.extends
 
-    pub paired-stands : IsKind BodyKind (object_at paired b)
+    paired-stands : IsKind BodyKind (object_at paired b)
     paired-stands = subst (IsKind BodyKind) (sym paired-new.at) refl
 
     paired-fields : fields_at paired b ≡ paired_words
     unfolding fields_at
     paired-fields = ap fields_of paired-new.at
 
-    pub paired-long : length (fields_at paired b) ≡ 3 * c
+    paired-long : length (fields_at paired b) ≡ 3 * c
     paired-long = ap length paired-fields ∙ paired-count
 
-    pub paired-known : AreValues paired (fields_at paired b)
+    paired-known : AreValues paired (fields_at paired b)
     paired-known = subst (AreValues paired) (sym paired-fields)
         (AreValues-kept h paired paired-keeps paired_words paired-values)
 
@@ -139,7 +146,7 @@ module _ (h : Heap) (a : ℕ) (known : StandsAs h DictionaryKind a 4) (sound : I
         let fits = more-room in
         omega (arith, front, nulls, whole, fits)
 
-    pub paired-blank : drop (2 * c) (fields_at paired b) ≡ replicate c zero_word
+    paired-blank : drop (2 * c) (fields_at paired b) ≡ replicate c zero_word
     paired-blank =
         let front : List Word = words_of_pairs more_pairs ++ replicate rest zero_word in
         ap (drop (2 * c)) (paired-fields ∙ (paired-are
@@ -147,6 +154,14 @@ module _ (h : Heap) (a : ℕ) (known : StandsAs h DictionaryKind a 4) (sound : I
         (replicate c zero_word))))
         ∙ (ap (λ m. drop m (front ++ replicate c zero_word)) (sym front-long)
         ∙ drop-front front (replicate c zero_word))
+
+    pub paired-free : HasFreeIndex paired b c
+    paired-free = record {
+      stands = paired-stands;
+      fields = paired-long;
+      values = paired-known;
+      free = paired-blank;
+    }
 
     paired-pairs : take (count_at h a + 1) (pairs_of_words (fields_at paired b)) ≡ more_pairs
     paired-pairs =

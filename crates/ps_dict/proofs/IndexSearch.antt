@@ -13,7 +13,7 @@ use Rattle.ps_word.specs.declared.words.Word.{Word}
 use Rattle.ps_word.specs.declared.values.Part.{Part}
 use Rattle.ps_word.specs.declared.values.Content.{Content}
 use Rattle.ps_word.specs.declared.values.Content.TheVariants.{Null, Integer, Boolean, Mark, Name, Operator, Array, Dictionary, Lock, Condition}
-use Rattle.ps_word.specs.OperatorNumbers.{operator_number}
+use Rattle.ps_language.specs.Operators.{operator_number}
 use Rattle.ps_word.specs.Format.{content_in, bit_of}
 use Rattle.ps_mem.specs.Index.{hash_of_content, hash_of, hashes_of, index_of}
 use Rattle.ps_mem.proofs.Lists.{slice_get-map}

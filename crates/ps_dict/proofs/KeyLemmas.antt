@@ -15,17 +15,18 @@ use Rattle.ps_language.specs.declared.kinds.Kind.TheVariants.{Array as ArrayKind
 use Rattle.ps_language.specs.declared.operators.Operator.{Operator as OperatorName}
 use Rattle.ps_language.specs.declared.operators.Operator.TheVariants.{Pop}
 use Rattle.ps_language.specs.contracts.operators.Operator as the_operator
-use Rattle.ps_language.specs.OperatorList.{every_operator}
+use Rattle.ps_language.specs.Operators.{every_operator}
 use Rattle.ps_language.specs.Value.{Store}
 use Rattle.ps_language.specs.Equality.{same_truth, same_operator, same_what, same_key}
 use Rattle.ps_word.specs.declared.words.Word.{Word}
 use Rattle.ps_word.specs.declared.values.Part.{Part}
 use Rattle.ps_word.specs.declared.values.Content.{Content}
 use Rattle.ps_word.specs.declared.values.Content.TheVariants.{Null, Integer, Boolean, Mark, Name, Operator, Array, Text, Dictionary, Lock, Condition, Body}
-use Rattle.ps_word.specs.OperatorNumbers.{operator_number}
+use Rattle.ps_language.specs.Operators.{operator_number}
 use Rattle.ps_word.specs.Readers.{as_text}
 use Rattle.ps_word.specs.Format.{type_number, part_bits, content_bits, content_in, is_body, IsPart, IsContent, IsWord}
-use Rattle.ps_word.proofs.Packing.{operator_at-number, operator_number-below, access_number-below}
+use Rattle.ps_language.proofs.Numbers.{operator_at-number, operator_number-below}
+use Rattle.ps_word.proofs.Packing.{access_number-below}
 use Rattle.ps_word.proofs.Places.{IsContent-of_word, type-of_word, low-of_word}
 use Rattle.ps_mem.specs.Heap.{Heap, birth_of, birth_at}
 use Rattle.ps_mem.specs.References.{StandsAs, IsKnown, IsKnownContent}

@@ -57,6 +57,19 @@ pub no-index : (births : ℕ → ℕ) (c : ℕ) → replicate c zero_word ≡ in
 unfolding index_words index_of
 no-index births c = free-words c
 
+-- what holds once a dictionary without pairs is made: it stands at a, and its body at b
+pub record IsMade (g k : Heap) (a b c : ℕ) : Type 0 where
+  pub body : body_at k a ≡ b
+  pub body_free : object_at g (body_at k a) ≡ None
+  pub known : StandsAs k DictionaryKind a 4
+  pub sound : IsSound k
+  pub extends : Extends g k
+  pub birth : birth_at k a ≡ g.next
+  pub count : count_at k a ≡ 0
+  pub capacity : capacity_at k a ≡ c
+  pub shows : (names : List (List ℕ)) (s : Store) → Shows g names s
+      → Shows k names (s ++ dictionary_object (empty_dictionary c) ∷ [])
+
 module _ (g : Heap) (a : ℕ) (free : object_at g a ≡ None) (b c : ℕ)
     (body_free : object_at (made g a DictionaryKind 4) b ≡ None) where
   abbrev alone : Heap
@@ -65,7 +78,7 @@ module _ (g : Heap) (a : ℕ) (free : object_at g a ≡ None) (b c : ℕ)
   abbrev pub both : Heap
   both = made_body alone b (birth_at alone a) (3 * c)
 
-  pub birth-alone : birth_at alone a ≡ g.next
+  birth-alone : birth_at alone a ≡ g.next
   unfolding birth_at
   birth-alone = ap birth_of (object_at-made_same g a DictionaryKind 4)
 
@@ -81,7 +94,7 @@ module _ (g : Heap) (a : ℕ) (free : object_at g a ≡ None) (b c : ℕ)
   body_free_before = sym (object_at-made_other g a DictionaryKind 4 b (λ same. apart (sym same)))
       ∙ body_free
 
-  pub blank-at : object_at both a ≡ Some blank
+  blank-at : object_at both a ≡ Some blank
   blank-at = object_at-made_body_other alone b (birth_at alone a) (3 * c) a apart
       ∙ object_at-made_same g a DictionaryKind 4
 
@@ -92,7 +105,7 @@ module _ (g : Heap) (a : ℕ) (free : object_at g a ≡ None) (b c : ℕ)
   abbrev body : Standing
   body = record { kind = BodyKind; birth = g.next; fields = replicate (3 * c) zero_word }
 
-  pub body-at : object_at both b ≡ Some body
+  body-at : object_at both b ≡ Some body
   body-at = object_at-made_body_same alone b (birth_at alone a) (3 * c)
       ∙ ap (λ n. Some (record { kind = BodyKind; birth = n; fields = replicate (3 * c) zero_word }))
       birth-alone
@@ -126,15 +139,15 @@ module _ (g : Heap) (a : ℕ) (free : object_at g a ≡ None) (b c : ℕ)
     unfolding splice
     four_fields = refl
 
-    pub whole-at : object_at whole a ≡ Some dictionary
+    whole-at : object_at whole a ≡ Some dictionary
     whole-at = object_at-stored_same both a 0 four blank blank-at
         ∙ ap (λ ws. Some (record { kind = DictionaryKind; birth = g.next; fields = ws }))
         four_fields
 
-    pub whole-body : object_at whole b ≡ Some body
+    whole-body : object_at whole b ≡ Some body
     whole-body = object_at-stored_other both a 0 four b (λ same. apart (sym same)) ∙ body-at
 
-    pub whole-extends : Extends g whole
+    whole-extends : Extends g whole
     whole-extends =
         Extends-stored g both a 0 four
         (Extends-then g alone both (Extends-made g a DictionaryKind 4 free)
@@ -160,7 +173,7 @@ module _ (g : Heap) (a : ℕ) (free : object_at g a ≡ None) (b c : ℕ)
       ]
     ]
 
-    abbrev pub whole-fields : DictionaryFields whole g.next (w ∷ x ∷ y ∷ z ∷ [])
+    abbrev whole-fields : DictionaryFields whole g.next (w ∷ x ∷ y ∷ z ∷ [])
     whole-fields = record {
       count_word = w;
       capacity_word = x;
@@ -189,26 +202,26 @@ module _ (g : Heap) (a : ℕ) (free : object_at g a ≡ None) (b c : ℕ)
     unfolding fields_at
     fields_whole = ap fields_of whole-at
 
-    pub whole-count : count_at whole a ≡ 0
+    whole-count : count_at whole a ≡ 0
     whole-count = subst (λ ws. natural_in ws 0 ≡ 0) (sym fields_whole)
         (count-in whole g.next four whole-fields)
 
-    pub whole-capacity : capacity_at whole a ≡ c
+    whole-capacity : capacity_at whole a ≡ c
     whole-capacity = subst (λ ws. natural_in ws 1 ≡ c) (sym fields_whole)
         (capacity-in whole g.next four whole-fields)
 
-    pub whole-body_at : body_at whole a ≡ b
+    whole-body_at : body_at whole a ≡ b
     whole-body_at = subst (λ ws. body_in ws 3 ≡ b) (sym fields_whole)
         (body-in whole g.next four whole-fields)
 
-    pub whole-body_free : object_at g (body_at whole a) ≡ None
+    whole-body_free : object_at g (body_at whole a) ≡ None
     whole-body_free = ap (object_at g) whole-body_at ∙ body_free_before
 
-    pub whole-birth : birth_at whole a ≡ g.next
+    whole-birth : birth_at whole a ≡ g.next
     unfolding birth_at
     whole-birth = ap birth_of whole-at
 
-    pub whole-known : StandsAs whole DictionaryKind a 4
+    whole-known : StandsAs whole DictionaryKind a 4
     whole-known = record { object = dictionary; at = whole-at; kind_is = refl; fits = omega arith }
 
     body_within : (names : List (List ℕ)) (t : Store) (u : Word) → content_in u.0 ≡ Body b
@@ -217,12 +230,12 @@ module _ (g : Heap) (a : ℕ) (free : object_at g a ≡ None) (b c : ℕ)
     body_within names t u is = subst (IsWithinContent (birth_at whole) names t) (sym is) tt
 
     module _ (sound : IsSound g) where
-      pub whole-sound : IsSound whole
+      whole-sound : IsSound whole
       whole-sound = IsSound-new_dictionary g whole whole-extends a b dictionary body sound only
           whole_next refl refl refl refl (dictionary_fields whole-fields)
           (AreValues-zeros whole (3 * c))
 
-      pub whole-shows : (names : List (List ℕ)) (s : Store) → Shows g names s
+      whole-shows : (names : List (List ℕ)) (s : Store) → Shows g names s
           → Shows whole names (s ++ dictionary_object (empty_dictionary c) ∷ [])
       whole-shows names s shows =
           let t : Store = s ++ dictionary_object (empty_dictionary c) ∷ [] in
@@ -254,3 +267,16 @@ module _ (g : Heap) (a : ℕ) (free : object_at g a ≡ None) (b c : ℕ)
 
           reference_within : (t : Store) → IsWithin (birth_at whole) names t z
           reference_within t = body_within names t z body_content
+
+      pub whole-made : IsMade g whole a b c
+      whole-made = record {
+        body = whole-body_at;
+        body_free = whole-body_free;
+        known = whole-known;
+        sound = whole-sound;
+        extends = whole-extends;
+        birth = whole-birth;
+        count = whole-count;
+        capacity = whole-capacity;
+        shows = whole-shows;
+      }

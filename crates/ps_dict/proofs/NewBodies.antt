@@ -31,6 +31,21 @@ pub second-there : (fields : List Word) (a b c d w : Word) → fields ≡ a ∷ 
 second-there fields a b c d w are at = let one : Some c ≡ Some w =
     sym (ap (λ ws. slice_get ws 2) are) ∙ at in cc
 
+-- the four words may be stored in the dictionary's fields, and it then has the new body
+pub record GetsBody (h : Heap) (a c : ℕ) (pairs : List (Word × Word)) (now : Heap)
+    (words : List Word) : Type 0 where
+  pub fits : 4 ≤ length (fields_at now a)
+  pub known : AreKnown now words
+  pub sound : IsSound (stored now a 0 words)
+  pub keeps : Keeps h (stored now a 0 words)
+  pub shows : (names : List (List ℕ)) (s : Store) → Shows h names s
+      → AreWithin h names s (words_of_pairs pairs) →
+      Shows (stored now a 0 words) names (with_dictionary s (birth_at h a)
+      (record (dictionary_at s (birth_at h a)) {
+        pairs = map (pair_of (birth_at h) names) pairs;
+        capacity = c;
+      }))
+
 module _ (h : Heap) (a : ℕ) (known : StandsAs h DictionaryKind a 4) (sound : IsSound h) (b : ℕ)
     (free : object_at h b ≡ None) (c : ℕ) (few : c ≤ 21845) (pairs : List (Word × Word))
     (room : length pairs ≤ c) (held : AreValues h (words_of_pairs pairs)) where
@@ -114,7 +129,7 @@ module _ (h : Heap) (a : ℕ) (known : StandsAs h DictionaryKind a 4) (sound : I
     fits = known.fits;
   }
 
-  pub grown-fields : fields_at grown a ≡ fields_at h a
+  grown-fields : fields_at grown a ≡ fields_at h a
   unfolding fields_at
   grown-fields = ap fields_of (new.extends.same a known.object known.at ∙ sym known.at)
 
@@ -131,7 +146,7 @@ module _ (h : Heap) (a : ℕ) (known : StandsAs h DictionaryKind a 4) (sound : I
     abbrev four_words : List Word
     four_words = w ∷ x ∷ y ∷ z ∷ []
 
-    abbrev pub end : Heap
+    abbrev end : Heap
     end = stored grown a 0 four_words
 
     access_natural : IsNatural y (shape h a known sound).access
@@ -177,10 +192,10 @@ module _ (h : Heap) (a : ℕ) (known : StandsAs h DictionaryKind a 4) (sound : I
           ∙ ap (index_words (birth_at grown) c) (sym (whole-pairs (birth_at h) c pairs room)));
     }
 
-    pub end-sound : IsSound end
+    end-sound : IsSound end
     end-sound = fields-sound grown a grown-known grown-sound 0 four_words (omega arith) grown-shape
 
-    pub end-keeps : Keeps h end
+    end-keeps : Keeps h end
     end-keeps = Keeps-then h grown end keeps
         (fields-keeps grown a grown-known grown-sound 0 four_words (omega arith) grown-shape)
 
@@ -201,7 +216,7 @@ module _ (h : Heap) (a : ℕ) (known : StandsAs h DictionaryKind a 4) (sound : I
     access_known = subst (IsKnownContent grown)
         (sym (ap (λ (u : WordValue). u.content) access_natural)) tt
 
-    pub four_known : AreKnown grown four_words
+    four_known : AreKnown grown four_words
     four_known =
         let first = IsValue-kept h grown keeps w count_held in
         let second = IsValue-kept h grown keeps x capacity_held in
@@ -215,7 +230,7 @@ module _ (h : Heap) (a : ℕ) (known : StandsAs h DictionaryKind a 4) (sound : I
       sym (value_of-kept h grown keeps names p.1 all.1.0.known) i,
     ) ∷ pairs-kept names ps all.1.1 i
 
-    pub end-shows : (names : List (List ℕ)) (s : Store) → Shows h names s
+    end-shows : (names : List (List ℕ)) (s : Store) → Shows h names s
         → AreWithin h names s (words_of_pairs pairs) →
         Shows end names (with_dictionary s (birth_at h a)
         (record (dictionary_at s (birth_at h a)) {
@@ -244,3 +259,13 @@ module _ (h : Heap) (a : ℕ) (known : StandsAs h DictionaryKind a 4) (sound : I
         (sym (length-map pairs (pair_of (birth_at h) names))) refl
         (sym (access-is h a known sound) ∙ access-shown h a known sound names s shows)
         (pairs-kept names pairs held) refl)
+
+    pub gets_body : GetsBody h a c pairs grown four_words
+    gets_body = record {
+      fits = (let same = ap length grown-fields in let n = four h a known sound in
+          omega (arith, same, n));
+      known = four_known;
+      sound = end-sound;
+      keeps = end-keeps;
+      shows = end-shows;
+    }

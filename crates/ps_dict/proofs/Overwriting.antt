@@ -24,6 +24,18 @@ use Rattle.ps_dict.proofs.Rewriting.{rewritten-keeps, rewritten-sound, rewritten
 use Rattle.ps_dict.proofs.Shapes.{shape, four, fields-dictionary, dictionary_is_no_text, body-stands, body-room}
 use Rattle.ps_dict.proofs.WholeBodies.{whole-long, whole-pairs, whole-index, whole-values, whole-within}
 
+-- what holds once the words of a whole body are written over the one that there is
+pub record Overwritten (h k : Heap) (a : ℕ) (pairs : List (Word × Word)) : Type 0 where
+  pub sound : IsSound k
+  pub keeps : Keeps h k
+  pub births : birth_at k ≡ birth_at h
+  pub others : (c : ℕ) → a ≢ c → body_at h a ≢ c → object_at k c ≡ object_at h c
+  pub shows : (names : List (List ℕ)) (s : Store) → Shows h names s
+      → AreWithin h names s (words_of_pairs pairs) → Shows k names
+      (with_dictionary s (birth_at h a)
+      (record (dictionary_at s (birth_at h a))
+      { pairs = map (pair_of (birth_at h) names) pairs }))
+
 module _ (h : Heap) (a : ℕ) (known : StandsAs h DictionaryKind a 4) (sound : IsSound h)
     (pairs : List (Word × Word)) (room : length pairs ≤ capacity_at h a)
     (held : AreValues h (words_of_pairs pairs)) where
@@ -77,7 +89,7 @@ module _ (h : Heap) (a : ℕ) (known : StandsAs h DictionaryKind a 4) (sound : I
       omega (arith, e, f, n)
 
   module _ (w : Word) (is : IsNatural w (length pairs)) (w_held : IsValue h w) where
-    abbrev pub after_number : Heap
+    abbrev after_number : Heap
     after_number = stored after_body a 0 (w ∷ [])
 
     at-body : object_at after_number (body_at h a) ≡ Some
@@ -88,7 +100,7 @@ module _ (h : Heap) (a : ℕ) (known : StandsAs h DictionaryKind a 4) (sound : I
         (record known.object { fields = splice known.object.fields 0 (w ∷ []) })
     at-dictionary = object_at-stored_same after_body a 0 (w ∷ []) known.object at-after
 
-    pub over-others : (c : ℕ) → a ≢ c → body_at h a ≢ c
+    over-others : (c : ℕ) → a ≢ c → body_at h a ≢ c
         → object_at after_number c ≡ object_at h c
     over-others c ne ne' = object_at-stored_other after_body a 0 (w ∷ []) c ne
         ∙ object_at-stored_other h (body_at h a) 0 words c ne'
@@ -96,7 +108,7 @@ module _ (h : Heap) (a : ℕ) (known : StandsAs h DictionaryKind a 4) (sound : I
     rest-after : rest_of after_number ≡ rest_of h
     rest-after = rest-stored after_body a 0 (w ∷ []) ∙ rest-stored h (body_at h a) 0 words
 
-    pub over-births : birth_at after_number ≡ birth_at h
+    over-births : birth_at after_number ≡ birth_at h
     over-births = birth_at-stored after_body a 0 (w ∷ []) ∙ birth_at-stored h (body_at h a) 0 words
 
     fields-are : splice known.object.fields 0 (w ∷ []) ≡ w ∷ (shape h a known sound).capacity_word
@@ -104,21 +116,21 @@ module _ (h : Heap) (a : ℕ) (known : StandsAs h DictionaryKind a 4) (sound : I
     fields-are = ap (λ xs. splice xs 0 (w ∷ [])) (sym (fields-dictionary h a known))
         ∙ count_fields h a known sound w (length pairs) is
 
-    pub over-keeps : Keeps h after_number
+    over-keeps : Keeps h after_number
     over-keeps = rewritten-keeps h a known sound after_number
         (splice known.object.fields 0 (w ∷ [])) words at-dictionary at-body over-others rest-after
         over-births words-fit w pairs is fields-are room
         (whole-pairs (birth_at h) (capacity_at h a) pairs room)
         (whole-index (birth_at h) (capacity_at h a) pairs room) words-values
 
-    pub over-sound : IsSound after_number
+    over-sound : IsSound after_number
     over-sound = rewritten-sound h a known sound after_number
         (splice known.object.fields 0 (w ∷ [])) words at-dictionary at-body over-others rest-after
         over-births words-fit w pairs is fields-are room
         (whole-pairs (birth_at h) (capacity_at h a) pairs room)
         (whole-index (birth_at h) (capacity_at h a) pairs room) words-values
 
-    pub over-shows : (names : List (List ℕ)) (s : Store) → Shows h names s
+    over-shows : (names : List (List ℕ)) (s : Store) → Shows h names s
         → AreWithin h names s (words_of_pairs pairs) → Shows after_number names
         (with_dictionary s (birth_at h a)
         (record (dictionary_at s (birth_at h a))
@@ -137,3 +149,12 @@ module _ (h : Heap) (a : ℕ) (known : StandsAs h DictionaryKind a 4) (sound : I
         (all_splice (IsWithin (birth_at h) names s) known.object.fields 0 (w ∷ [])
         (shows.within a known.object known.at (dictionary_is_no_text h a known))
         (natural-within w (length pairs) is (birth_at h) names s, tt))
+
+    pub overwritten : Overwritten h after_number a pairs
+    overwritten = record {
+      sound = over-sound;
+      keeps = over-keeps;
+      births = over-births;
+      others = over-others;
+      shows = over-shows;
+    }

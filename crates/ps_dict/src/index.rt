@@ -12,8 +12,8 @@ ghost use Rattle.ps_mem.specs.Shows.{IsValue};
 ghost use Rattle.ps_dict.specs.Places.{IsPlaceFor};
 ghost use Rattle.ps_dict.specs.Probes.{going_round};
 
+use ps_language::operators::number_of;
 use ps_mem::Memory;
-use ps_word::operators::number_of;
 use ps_word::values::Content;
 use ps_word::words::Word;
 

@@ -36,9 +36,9 @@ use Rattle.ps_gc.specs.declared.collector.Drained.{Drained}
 use Rattle.ps_gc.specs.declared.collector.Drained.TheVariants.{Nothing, Took, Closed}
 use Rattle.ps_gc.specs.Ending.{FindsNext, IsEnded, KeepsReplicas, Scans, StaysBut, record_found}
 use Rattle.ps_gc.specs.Events.{Copied, DrainedOf, IsLike, is_drained}
-use Rattle.ps_gc.specs.declared.flips.Flip.{Flip}
-use Rattle.ps_gc.specs.declared.flips.Flip.TheVariants.{Done, NotReady}
-use Rattle.ps_gc.specs.declared.flips.Unready.TheVariants.{LogOpen, Undrained, Unscanned, RootNotCopied}
+use Rattle.ps_core_laws.specs.declared.tries.Flip.{Flip}
+use Rattle.ps_core_laws.specs.declared.tries.Flip.TheVariants.{Done, NotReady}
+use Rattle.ps_core_laws.specs.declared.tries.Unready.TheVariants.{LogOpen, Undrained, Unscanned, RootNotCopied}
 use Rattle.ps_gc.specs.Flipping.{Answers, AreDrained, MayFlip}
 use Rattle.ps_gc.proofs.Flipping.{all_drained}
 

@@ -18,7 +18,7 @@ use Rattle.ps_core_machine.specs.Steps.{State, is_open, knows_open, other_base, 
 use Rattle.ps_core_laws.specs.Laws.{IsBeginningOf}
 use Rattle.ps_core_laws.specs.Runs.{run}
 use Rattle.ps_core_laws.proofs.HeapTests.{bool_cases, and_parts, and_both, or_left, or_right, eq_true, number_is}
-use Rattle.ps_core_laws.proofs.HeapTests.{same_number}
+use Rattle.ps_core_laws.proofs.HeapTests.{number_not, same_number}
 use Rattle.ps_core_laws.proofs.Kept.{good}
 use Rattle.ps_core_laws.proofs.Lookups.{among-append}
 use Rattle.ps_core_laws.proofs.KeptFacts.{kept}
@@ -32,7 +32,8 @@ use Rattle.ps_core_laws.proofs.FlipFacts.{opens-logs}
 use Rattle.ps_table.specs.Shown.{BothRun}
 use Rattle.ps_table.proofs.Facts.{taken}
 use Rattle.ps_table.specs.declared.plays.View.{View}
-use Rattle.ps_table.specs.Events.{OnlyLooks, is_look_or_flip, gc_did_all, root_looks}
+use Rattle.ps_core_laws.specs.Looks.{OnlyLooks, is_look_or_flip}
+use Rattle.ps_table.specs.Events.{gc_did_all, root_looks}
 use Rattle.ps_table.proofs.Looking.{more_looks, no_looks}
 use Rattle.ps_table.specs.Shown.{gc_did}
 use Rattle.ps_gc.specs.declared.taken.Taken.{Taken}
@@ -146,6 +147,14 @@ module _ (v : Vm) (g : Gc) (roots : List ℕ) (r : BothRun v g) (vm : VmMay v (C
       (λ i. (r.vm_is i, r.gc_is i))
       (opens-logs s roots permitted.vm.0
       (kept v.space r.size (CycleStore roots ∷ r.events) (r.is_run, permitted)).mutator)
+
+-- the collector knows the epoch then, and that the cycle of that number is ended
+pub flip_knows : (v : Vm) (g : Gc) (roots : List ℕ) → BothRun v g → is_open v ≡ true
+    → knows_open (gc_after g v (CycleStore roots)) ≡ false
+flip_knows v g roots r opened =
+    let epoch = number_is v.epoch (v.cycle + 1) opened in
+    let same = (meets v g r).1 in
+    number_not v.epoch (g.cycle + 1 + 1) (λ e. absurd (omega arith))
 
 -- words as numbers, and back
 pub as_they_are : (ws : List Word) → as_words (numbers ws) ≡ ws

@@ -1,14 +1,17 @@
 -- When a flip can come, and what it makes of the memory.
-use Rattle.std.specs.Prelude.{◌≡◌, ◌≢◌, ℕ, true, false, List}
+use Rattle.std.specs.Prelude.{◌≡◌, ◌≢◌, ℕ, true, false, List, Option, Some, None}
 use Rattle.ps_core_machine.specs.declared.events.Vm.{Vm}
 use Rattle.ps_core_machine.specs.declared.events.Gc.{Gc}
 use Rattle.ps_core_machine.specs.Conditions.{AllClosed}
 use Rattle.ps_core_machine.specs.Objects.{all_filled, values_have_replicas}
-use Rattle.ps_gc.specs.declared.flips.Flip.{Flip}
-use Rattle.ps_gc.specs.declared.flips.Flip.TheVariants.{Done, NotReady}
-use Rattle.ps_gc.specs.declared.flips.Unready.{Unready}
-use Rattle.ps_gc.specs.declared.flips.Unready.TheVariants.{LogOpen, Undrained, Unscanned}
-use Rattle.ps_gc.specs.declared.flips.Unready.TheVariants.{RootNotCopied}
+use Rattle.ps_core_laws.specs.Memory.{heap_of, grants_of}
+use Rattle.ps_core_laws.specs.Tries.{BothSides}
+use Rattle.ps_table.specs.declared.plays.View.{View}
+use Rattle.ps_core_laws.specs.declared.tries.Flip.{Flip}
+use Rattle.ps_core_laws.specs.declared.tries.Flip.TheVariants.{Done, NotReady}
+use Rattle.ps_core_laws.specs.declared.tries.Unready.{Unready}
+use Rattle.ps_core_laws.specs.declared.tries.Unready.TheVariants.{LogOpen, Undrained, Unscanned}
+use Rattle.ps_core_laws.specs.declared.tries.Unready.TheVariants.{RootNotCopied}
 
 -- all logs are closed, and all that was logged is taken
 abbrev pub AreDrained : Vm → Gc → Type 0
@@ -33,3 +36,19 @@ IsFirst v g roots RootNotCopied =
 abbrev pub Answers : Vm → Gc → List ℕ → Flip → Type 0
 Answers v g roots Done = MayFlip v g roots
 Answers v g roots (NotReady why) = IsFirst v g roots why
+
+-- a try that this hinders, or that nothing hinders, comes to
+abbrev pub flip_but_for : Option Unready → Flip
+flip_but_for (Some why) = NotReady why
+flip_but_for None = Done
+
+-- ---- what is seen
+
+-- what both seats know of both sides, or one seat that has both
+abbrev pub sides_seen : (vm gc : View) → BothSides
+sides_seen vm gc = record {
+  heap = heap_of vm.vm;
+  grants = grants_of vm.vm;
+  vm_did = vm.vm_events;
+  gc_did = gc.gc_events;
+}

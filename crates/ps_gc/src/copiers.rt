@@ -3,7 +3,7 @@
 //!
 //! It keeps that the roots that are still to be replicated are known to it, whether it knows of an
 //! open cycle, and that its table is the one of its name.
-ghost use Rattle.std.specs.Prelude.{◌≡◌, ◌<◌, ◌+◌, ◌-◌, ◌++◌, ◌∷◌, ◌&&◌, ◌↔◌, ℕ, IsTrue, true};
+ghost use Rattle.std.specs.Prelude.{◌≡◌, ◌<◌, ◌+◌, ◌-◌, ◌++◌, ◌∷◌, ◌&&◌, true};
 ghost use Rattle.std.specs.Prelude.{false, not, nat_lt, []};
 ghost use Rattle.ps_core_machine.specs.declared.events.Event.TheVariants.{ReplicaHeaderStore};
 ghost use Rattle.ps_core_machine.specs.Objects.{all_filled, value_has_replica};
@@ -11,15 +11,16 @@ ghost use Rattle.ps_core_machine.specs.Steps.{is_open, knows_open};
 ghost use Rattle.ps_mem.specs.Shows.{AreValues};
 ghost use Rattle.ps_core_laws.specs.Memory.{heap_of, grants_of};
 ghost use Rattle.ps_core_laws.specs.Stores.{numbers};
-ghost use Rattle.ps_core_laws.specs.Collected.{IsCollected, IsQuiet};
+ghost use Rattle.ps_core_laws.specs.Tries.{IsFlip};
 ghost use Rattle.ps_table.specs.Shown.{gc_did};
 ghost use Rattle.ps_gc.specs.Events.{AreKnown, is_free, other_word};
-ghost use Rattle.ps_gc.specs.Flipping.{MayFlip};
+ghost use Rattle.ps_gc.specs.Flipping.{Answers, sides_seen};
 ghost use Rattle.ps_gc.specs.Known.{are_known};
 
 use crate::naming::Naming;
 use crate::seats::MutatorSeat;
-use crate::{ACTIONS_A_LOOK, Collector, Drained, Flip};
+use crate::{ACTIONS_A_LOOK, Collector, Drained};
+use ps_core_laws::Flip;
 use ps_core_laws::sides::{Collects, Works};
 use ps_mem::Memory;
 use ps_record::slots::Slot;
@@ -191,6 +192,11 @@ impl<J: Naming> Copier<J> {
 }
 
 impl<J: Naming> Collects<MutatorSeat<J>> for Copier<J> {
+    ghost did = { λ c _. c.collector.gc.seat.me.0.gc_events };
+
+    ghost answers = { λ c m roots. Answers m.vm.seat.me.0.vm
+        c.collector.gc.seat.me.0.gc (numbers roots) };
+
     /// As the collector's: it knows then whether a cycle is open, and in one what the roots name.
     /// Where they find no room in the list, none of them is replicated before the next hand-over.
     fn hand_over(&mut self, memory: &mut MutatorSeat<J>, roots: &[Word])
@@ -210,31 +216,25 @@ impl<J: Naming> Collects<MutatorSeat<J>> for Copier<J> {
     }
 
     /// As the collector's: exactly where all logs are closed and drained, all fields filled, and
-    /// what the roots refer to has replicas.
-    fn try_flip(&mut self, memory: &mut MutatorSeat<J>, roots: &mut [Word]) -> bool
+    /// what the roots refer to has replicas; else it answers the first of these that doesn't hold.
+    fn try_flip(&mut self, memory: &mut MutatorSeat<J>, roots: &mut [Word]) -> Flip
         requires values { AreValues (heap_of memory.old.vm.seat.me.0.vm) roots.old }
         requires open { is_open memory.old.vm.seat.me.0.vm ≡ true }
-        ensures answer { IsTrue result ↔ MayFlip memory.old.vm.seat.me.0.vm
-            self.old.collector.gc.seat.me.0.gc (numbers roots.old) }
-        ensures moved { result ≡ true → IsCollected (heap_of memory.old.vm.seat.me.0.vm)
-            (heap_of memory.new.vm.seat.me.0.vm) roots.old roots.new }
-        ensures quiet { result ≡ true → IsQuiet (grants_of memory.new.vm.seat.me.0.vm) }
-        ensures fresh { result ≡ true → (address : ℕ)
-            → (grants_of memory.new.vm.seat.me.0.vm).fresh address ≡ false }
-        ensures heap { result ≡ false
-            → heap_of memory.new.vm.seat.me.0.vm ≡ heap_of memory.old.vm.seat.me.0.vm }
-        ensures grants { result ≡ false
-            → grants_of memory.new.vm.seat.me.0.vm ≡ grants_of memory.old.vm.seat.me.0.vm }
-        ensures roots { result ≡ false → roots.new ≡ roots.old }
+        ensures answer { Answers memory.old.vm.seat.me.0.vm
+            self.old.collector.gc.seat.me.0.gc (numbers roots.old) result }
+        ensures flips { IsFlip result
+            (sides_seen memory.old.vm.seat.me.0 self.old.collector.gc.seat.me.0)
+            (sides_seen memory.new.vm.seat.me.0 self.new.collector.gc.seat.me.0)
+            roots.old roots.new }
     {
         let used = memory.vm.used();
         match self.collector.try_flip(&mut memory.vm, roots) {
-            Flip::NotReady(_) => false,
+            Flip::NotReady(why) => Flip::NotReady(why),
             Flip::Done => {
                 self.pending.clear();
                 self.unclear = used;
-                self.in_cycle = self.collector.begin_cycle();
-                true
+                self.in_cycle = false;
+                Flip::Done
             }
         }
     }

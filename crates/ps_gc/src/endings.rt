@@ -13,8 +13,7 @@ ghost use Rattle.ps_gc.specs.Ending.{IsEnded, KeepsReplicas, StaysBut};
 ghost use Rattle.ps_gc.specs.Events.{is_drained};
 
 use crate::collector::{Collector, Drained};
-use crate::flips::Flip;
-use ps_core_laws::Closing;
+use ps_core_laws::{Closing, Flip};
 use ps_record::SLOTS;
 use ps_record::slots::Slot;
 use ps_table::{Mirror, VmSeat, Words, join, part};

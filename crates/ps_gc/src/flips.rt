@@ -1,6 +1,6 @@
 //! The flip, which comes only where all is ready for it, and the roots that are handed over.
-ghost use Rattle.std.specs.Prelude.{◌≡◌, ◌≤◌, ◌+◌, ◌<◌, ◌↔◌, ℕ, IsTrue, true, false, length};
-ghost use Rattle.std.specs.Prelude.{slice_index};
+ghost use Rattle.std.specs.Prelude.{◌≡◌, ◌+◌, ◌<◌, ◌↔◌, ℕ, IsTrue, true, false, length};
+ghost use Rattle.std.specs.Prelude.{None, slice_index};
 ghost use Rattle.ps_record.specs.Format.{slots};
 ghost use Rattle.ps_core_machine.specs.declared.events.Event.TheVariants.{CycleStore, HandOver};
 ghost use Rattle.ps_core_machine.specs.Conditions.{AllClosed};
@@ -8,44 +8,24 @@ ghost use Rattle.ps_core_machine.specs.Objects.{log_of, values_have_replicas, va
 ghost use Rattle.ps_core_machine.specs.Steps.{is_open, knows_open, vm_after, gc_after};
 ghost use Rattle.ps_core_laws.specs.Memory.{heap_of, grants_of};
 ghost use Rattle.ps_core_laws.specs.Stores.{numbers};
-ghost use Rattle.ps_core_laws.specs.Collected.{IsCollected, IsExact};
-ghost use Rattle.ps_core_laws.specs.Flips.{AfterFlip};
-ghost use Rattle.ps_table.specs.Events.{OnlyLooks, gc_did_all, root_looks};
-ghost use Rattle.ps_table.specs.Mirrored.{Mirrors, Sits};
-ghost use Rattle.ps_table.specs.Shown.{AreJoined, BothDo, BothRun, both_did};
+ghost use Rattle.ps_core_laws.specs.Collected.{IsExact};
+ghost use Rattle.ps_core_laws.specs.Looks.{OnlyLooks};
 ghost use Rattle.ps_core_laws.specs.Reach.{NameTheSame};
+ghost use Rattle.ps_core_laws.specs.Tries.{IsFlip};
+ghost use Rattle.ps_table.specs.Mirrored.{Mirrors, Sits};
+ghost use Rattle.ps_table.specs.Shown.{AreJoined, BothDo, BothRun};
 ghost use Rattle.ps_gc.specs.Events.{AreKnown};
-ghost use Rattle.ps_gc.specs.Flipping.{Answers, MayFlip};
+ghost use Rattle.ps_gc.specs.Flipping.{Answers, flip_but_for, sides_seen};
 
 use crate::collector::Collector;
 use crate::taken::Taken;
 use atomic_table::Seat;
+use ps_core_laws::{Flip, Unready};
 use ps_record::SLOTS;
 use ps_record::slots::Slot;
 use ps_table::{GcSeat, Mirror, View, VmSeat, Words, join, part};
 use ps_word::words::Word;
-
-/// What a try to flip came to.
-#[derive(Clone, Copy, Debug, PartialEq, Eq)]
-pub enum Flip {
-    /// The replicas are the standing objects now, and the roots are renamed.
-    Done,
-    /// Nothing has changed.
-    NotReady(Unready),
-}
-
-/// Why a flip can't come yet.
-#[derive(Clone, Copy, Debug, PartialEq, Eq)]
-pub enum Unready {
-    /// A log isn't closed in the open cycle.
-    LogOpen,
-    /// A record wasn't taken.
-    Undrained,
-    /// A field of a replica isn't filled.
-    Unscanned,
-    /// What a root refers to has no replica.
-    RootNotCopied,
-}
+use std::marker::Brand;
 
 /// Whether all logs are closed in the open cycle.
 fn all_closed(mirror: &Mirror, seat: &Seat<(), View>) -> bool
@@ -121,42 +101,39 @@ impl<W: Words> Collector<W> {
         self.gc.hand_over(mirror, roots);
     }
 
-    /// The flip, for which all is ready.
-    fn flip(&mut self, mirror: &mut Mirror, roots: &mut [Word])
-        requires sits { Sits (W.id self.old.gc.table).words self.old.gc.seat.me mirror.old }
+    /// Of all that a flip needs the first that doesn't hold. None: a flip can come, and both sides
+    /// are those of one run. Nothing changes.
+    fn hindrance(&mut self, mirror: &Mirror, roots: &[Word]) -> Option<Unready>
+        requires sits { Sits (W.id self.old.gc.table).words self.old.gc.seat.me mirror.now }
         requires open { is_open self.old.gc.seat.me.0.vm ≡ true }
-        requires ready { MayFlip self.old.gc.seat.me.0.vm self.old.gc.seat.me.0.gc
-            (numbers roots.old) }
-        requires runs { BothRun self.old.gc.seat.me.0.vm self.old.gc.seat.me.0.gc }
-        ensures sits { Sits (W.id self.new.gc.table).words self.new.gc.seat.me mirror.new }
+        requires stand { values_stand self.old.gc.seat.me.0.vm.objects (numbers roots.now)
+            ≡ true }
+        ensures sits { Sits (W.id self.new.gc.table).words self.new.gc.seat.me mirror.now }
         ensures same { W.id self.new.gc.table ≡ W.id self.old.gc.table }
-        ensures did { self.new.gc.seat.me.0 ≡ both_did (gc_did_all self.old.gc.seat.me.0
-            (root_looks self.old.gc.seat.me.0.gc (numbers roots.old)))
-            (CycleStore (numbers roots.old)) }
-        ensures parts { (self.new.gc.seat.me.0.vm ≡ vm_after self.old.gc.seat.me.0.vm
-            self.old.gc.seat.me.0.gc (CycleStore (numbers roots.old)))
-            × (self.new.gc.seat.me.0.gc ≡ gc_after self.old.gc.seat.me.0.gc
-            self.old.gc.seat.me.0.vm (CycleStore (numbers roots.old))) }
-        ensures moved { IsCollected (heap_of self.old.gc.seat.me.0.vm)
-            (heap_of self.new.gc.seat.me.0.vm) roots.old roots.new }
-        ensures exact { self.old.gc.seat.me.0.vm.stored ≡ false
-            → NameTheSame self.old.gc.seat.me.0.gc.handed (numbers roots.old)
-            → IsExact (heap_of self.old.gc.seat.me.0.vm)
-            (heap_of self.new.gc.seat.me.0.vm) roots.old roots.new }
-        ensures grants { AfterFlip (grants_of self.old.gc.seat.me.0.vm)
-            (grants_of self.new.gc.seat.me.0.vm) (heap_of self.new.gc.seat.me.0.vm) }
-        ensures steps { OnlyLooks 1 self.old.gc.seat.me.0.vm_events
+        ensures answer { Answers self.old.gc.seat.me.0.vm self.old.gc.seat.me.0.gc
+            (numbers roots.now) (flip_but_for result) }
+        ensures runs { result ≡ None
+            → BothRun self.old.gc.seat.me.0.vm self.old.gc.seat.me.0.gc }
+        ensures parts { (self.new.gc.seat.me.0.vm ≡ self.old.gc.seat.me.0.vm)
+            × (self.new.gc.seat.me.0.gc ≡ self.old.gc.seat.me.0.gc) }
+        ensures steps { OnlyLooks (length roots.now + 1) self.old.gc.seat.me.0.vm_events
             self.new.gc.seat.me.0.vm_events
-            × OnlyLooks (length roots.old + 1) self.old.gc.seat.me.0.gc_events
-            self.new.gc.seat.me.0.gc_events }
+            × (self.new.gc.seat.me.0.gc_events ≡ self.old.gc.seat.me.0.gc_events) }
     {
-        self.gc.store_cycle(mirror, roots, self.to.end);
-        self.to.cycle += 1;
-        let low = self.to.low();
-        self.to.end = low;
-        self.to.at = low;
-        self.to.field = 0;
-        self.taken.closed = [false; SLOTS as usize];
+        if !all_closed(mirror, &self.gc.seat) {
+            return Some(Unready::LogOpen);
+        }
+        if !all_taken(&self.taken, mirror, &self.gc.seat) {
+            return Some(Unready::Undrained);
+        }
+        self.gc.meet(mirror);
+        if self.to.at != self.to.end {
+            return Some(Unready::Unscanned);
+        }
+        if !have_replicas(&mut self.gc, mirror, roots) {
+            return Some(Unready::RootNotCopied);
+        }
+        None
     }
 
     /// Ends the open cycle by the flip, by a seat that has both sides. All logs must be closed and
@@ -171,45 +148,38 @@ impl<W: Words> Collector<W> {
         ensures same { W.id self.new.gc.table ≡ W.id self.old.gc.table }
         ensures answer { Answers self.old.gc.seat.me.0.vm self.old.gc.seat.me.0.gc
             (numbers roots.old) result }
+        ensures flips { IsFlip result
+            (sides_seen self.old.gc.seat.me.0 self.old.gc.seat.me.0)
+            (sides_seen self.new.gc.seat.me.0 self.new.gc.seat.me.0) roots.old roots.new }
         ensures parts { result ≡ Flip.Done → (self.new.gc.seat.me.0.vm ≡ vm_after
             self.old.gc.seat.me.0.vm self.old.gc.seat.me.0.gc (CycleStore (numbers roots.old)))
             × (self.new.gc.seat.me.0.gc ≡ gc_after self.old.gc.seat.me.0.gc
             self.old.gc.seat.me.0.vm (CycleStore (numbers roots.old))) }
-        ensures moved { result ≡ Flip.Done → IsCollected (heap_of self.old.gc.seat.me.0.vm)
-            (heap_of self.new.gc.seat.me.0.vm) roots.old roots.new }
+        // The collector knows of no open cycle then.
+        ensures knows { result ≡ Flip.Done → knows_open self.new.gc.seat.me.0.gc ≡ false }
         // Where nothing was stored in the cycle, and the roots are those handed over in it, just
         // what they reach was moved.
         ensures exact { result ≡ Flip.Done → self.old.gc.seat.me.0.vm.stored ≡ false
             → NameTheSame self.old.gc.seat.me.0.gc.handed (numbers roots.old)
             → IsExact (heap_of self.old.gc.seat.me.0.vm)
             (heap_of self.new.gc.seat.me.0.vm) roots.old roots.new }
-        ensures grants { result ≡ Flip.Done → AfterFlip (grants_of self.old.gc.seat.me.0.vm)
-            (grants_of self.new.gc.seat.me.0.vm) (heap_of self.new.gc.seat.me.0.vm) }
-        ensures kept { (why : Unready) → result ≡ Flip.NotReady why → (roots.new ≡ roots.old)
-            × (self.new.gc.seat.me.0.vm ≡ self.old.gc.seat.me.0.vm)
+        ensures kept { (why : Unready) → result ≡ Flip.NotReady why
+            → (self.new.gc.seat.me.0.vm ≡ self.old.gc.seat.me.0.vm)
             × (self.new.gc.seat.me.0.gc ≡ self.old.gc.seat.me.0.gc) }
-        // A look at the cycle word, one for each root, one more for each where it flips, and the
-        // flip, which both sides make; so no field is stored.
-        ensures steps { OnlyLooks (length roots.old + 2) self.old.gc.seat.me.0.vm_events
-            self.new.gc.seat.me.0.vm_events
-            × OnlyLooks (length roots.old + 1) self.old.gc.seat.me.0.gc_events
-            self.new.gc.seat.me.0.gc_events }
     {
-        if !all_closed(mirror, &self.gc.seat) {
-            return Flip::NotReady(Unready::LogOpen);
+        match self.hindrance(mirror, roots) {
+            Some(why) => Flip::NotReady(why),
+            None => {
+                self.gc.store_cycle::<Brand>(mirror, roots, self.to.end);
+                self.to.cycle += 1;
+                let low = self.to.low();
+                self.to.end = low;
+                self.to.at = low;
+                self.to.field = 0;
+                self.taken.closed = [false; SLOTS as usize];
+                Flip::Done
+            }
         }
-        if !all_taken(&self.taken, mirror, &self.gc.seat) {
-            return Flip::NotReady(Unready::Undrained);
-        }
-        self.gc.meet(mirror);
-        if self.to.at != self.to.end {
-            return Flip::NotReady(Unready::Unscanned);
-        }
-        if !have_replicas(&mut self.gc, mirror, roots) {
-            return Flip::NotReady(Unready::RootNotCopied);
-        }
-        self.flip(mirror, roots);
-        Flip::Done
     }
 }
 
@@ -241,27 +211,20 @@ impl Collector {
         requires stand { values_stand vm.old.seat.me.0.vm.objects (numbers roots.old) ≡ true }
         ensures answer { Answers vm.old.seat.me.0.vm self.old.gc.seat.me.0.gc
             (numbers roots.old) result }
+        ensures flips { IsFlip result (sides_seen vm.old.seat.me.0 self.old.gc.seat.me.0)
+            (sides_seen vm.new.seat.me.0 self.new.gc.seat.me.0) roots.old roots.new }
         ensures parts { result ≡ Flip.Done → (vm.new.seat.me.0.vm ≡ vm_after
             vm.old.seat.me.0.vm self.old.gc.seat.me.0.gc (CycleStore (numbers roots.old)))
             × (self.new.gc.seat.me.0.gc ≡ gc_after self.old.gc.seat.me.0.gc
             vm.old.seat.me.0.vm (CycleStore (numbers roots.old))) }
-        ensures moved { result ≡ Flip.Done → IsCollected (heap_of vm.old.seat.me.0.vm)
-            (heap_of vm.new.seat.me.0.vm) roots.old roots.new }
+        ensures knows { result ≡ Flip.Done → knows_open self.new.gc.seat.me.0.gc ≡ false }
         ensures exact { result ≡ Flip.Done → vm.old.seat.me.0.vm.stored ≡ false
             → NameTheSame self.old.gc.seat.me.0.gc.handed (numbers roots.old)
             → IsExact (heap_of vm.old.seat.me.0.vm)
             (heap_of vm.new.seat.me.0.vm) roots.old roots.new }
-        ensures grants { result ≡ Flip.Done → AfterFlip (grants_of vm.old.seat.me.0.vm)
-            (grants_of vm.new.seat.me.0.vm) (heap_of vm.new.seat.me.0.vm) }
-        ensures kept { (why : Unready) → result ≡ Flip.NotReady why → (roots.new ≡ roots.old)
-            × (vm.new.seat.me.0.vm ≡ vm.old.seat.me.0.vm)
+        ensures kept { (why : Unready) → result ≡ Flip.NotReady why
+            → (vm.new.seat.me.0.vm ≡ vm.old.seat.me.0.vm)
             × (self.new.gc.seat.me.0.gc ≡ self.old.gc.seat.me.0.gc) }
-        // A look at the cycle word, one for each root, one more for each where it flips, and the
-        // flip, which both seats make; so no field is stored.
-        ensures steps { OnlyLooks (length roots.old + 2) vm.old.seat.me.0.vm_events
-            vm.new.seat.me.0.vm_events
-            × OnlyLooks (length roots.old + 1) self.old.gc.seat.me.0.gc_events
-            self.new.gc.seat.me.0.gc_events }
         ensures same { (self.new.gc.seat.table_id ≡ self.old.gc.seat.table_id)
             × (vm.new.seat.table_id ≡ vm.old.seat.table_id) }
     {

@@ -1,10 +1,11 @@
 //! The collector of a space that has it inside, as a collector that is lent the space.
 
-ghost use Rattle.std.specs.Prelude.{◌≡◌, true, false};
+ghost use Rattle.ps_core_laws.specs.Stores.{numbers};
+ghost use Rattle.ps_gc.specs.Flipping.{Answers};
 
 use crate::endings::{hand, joined_end_cycle, joined_whole_cycle};
-use crate::flips::Flip;
 use crate::space::CollectedSpace;
+use ps_core_laws::Flip;
 use ps_core_laws::sides::Collects;
 use ps_table::Words;
 use ps_word::words::Word;
@@ -14,6 +15,11 @@ use ps_word::words::Word;
 pub struct Inside;
 
 impl<W: Words> Collects<CollectedSpace<W>> for Inside {
+    ghost did = { λ _ s. s.collector.gc.seat.me.0.gc_events };
+
+    ghost answers = { λ _ s roots. Answers s.collector.gc.seat.me.0.vm
+        s.collector.gc.seat.me.0.gc (numbers roots) };
+
     /// As the collector's; in an open cycle what the roots refer to gets replicas at once.
     fn hand_over(&mut self, memory: &mut CollectedSpace<W>, roots: &[Word]) {
         if memory.mirror.cycle_open {
@@ -23,8 +29,8 @@ impl<W: Words> Collects<CollectedSpace<W>> for Inside {
         }
     }
 
-    fn try_flip(&mut self, memory: &mut CollectedSpace<W>, roots: &mut [Word]) -> bool {
-        memory.collector.joined_try_flip(&mut memory.mirror, roots) == Flip::Done
+    fn try_flip(&mut self, memory: &mut CollectedSpace<W>, roots: &mut [Word]) -> Flip {
+        memory.collector.joined_try_flip(&mut memory.mirror, roots)
     }
 
     fn whole_cycle(&mut self, memory: &mut CollectedSpace<W>, roots: &mut [Word]) -> bool {

@@ -33,7 +33,6 @@ mod to_space;
 pub use collector::{ACTIONS_A_LOOK, Collector, Drained};
 pub use copiers::Copier;
 pub use endings::{joined_end_cycle, joined_whole_cycle};
-pub use flips::{Flip, Unready};
 pub use inside::Inside;
 pub use naming::Naming;
 pub use seats::{MutatorSeat, named_seats};

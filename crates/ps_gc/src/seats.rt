@@ -126,7 +126,9 @@ impl<J: Naming> Memory for MutatorSeat<J> {
 }
 
 impl<J: Naming> LoggedMemory for MutatorSeat<J> {
-    fn is_open(&mut self) -> bool {
+    ghost did = { λ s. s.vm.seat.me.0.vm_events };
+
+    fn is_open(&self) -> bool {
         self.vm.is_open()
     }
 

@@ -178,7 +178,9 @@ impl<W: Words> Memory for CollectedSpace<W> {
 }
 
 impl<W: Words> LoggedMemory for CollectedSpace<W> {
-    fn is_open(&mut self) -> bool {
+    ghost did = { λ s. s.collector.gc.seat.me.0.vm_events };
+
+    fn is_open(&self) -> bool {
         self.mirror.is_open(&self.collector.gc.seat)
     }
 

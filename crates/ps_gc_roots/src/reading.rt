@@ -2,6 +2,7 @@
 
 ghost use Rattle.std.specs.Prelude.{◌≡◌, ◌+◌, ◌≤◌, [], ◌∷◌, ◌++◌, flat_map, vec_len, vec_capacity};
 ghost use Rattle.std.specs.List.{AllByRecursion};
+ghost use Rattle.ps_language.specs.Limits.{operand_limit};
 ghost use Rattle.ps_word.specs.Format.{IsContent};
 ghost use Rattle.ps_gc_roots.specs.Formats.{AreInFormat, IsCourseInFormat, IsFrameInFormat};
 ghost use Rattle.ps_gc_roots.specs.Formats.{IsMemberInFormat};
@@ -85,9 +86,9 @@ fn read_frame(frame: Frame, roots: &mut Vec<Word>)
 /// Adds the roots of frames, those of the topmost first.
 fn read_frames(frames: &Frames, roots: &mut Vec<Word>)
     requires format { AllByRecursion IsFrameInFormat frames.now }
-    requires room { vec_len roots.old + 500 ≤ vec_capacity roots.old }
+    requires room { vec_len roots.old + operand_limit ≤ vec_capacity roots.old }
     ensures roots { roots.new.items ≡ roots.old.items ++ flat_map roots_of_frame frames.now }
-    ensures longer { vec_len roots.new ≤ vec_len roots.old + 500 }
+    ensures longer { vec_len roots.new ≤ vec_len roots.old + operand_limit }
     ensures capacity { vec_capacity roots.new ≡ vec_capacity roots.old }
 {
     for depth in 0..frames.len() {
@@ -137,6 +138,7 @@ pub fn read_roots(contexts: &Contexts, roots: &mut Vec<Word>)
     requires format { AreInFormat contexts.now.table }
     requires room { ROOT_LIMIT ≤ vec_capacity roots.old }
     ensures roots { roots.new.items ≡ roots_in contexts.now.table }
+    ensures few { vec_len roots.new ≤ ROOT_LIMIT }
     ensures capacity { vec_capacity roots.new ≡ vec_capacity roots.old }
 {
     let left = contexts.table.left();

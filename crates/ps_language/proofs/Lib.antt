@@ -18,6 +18,7 @@ pub mod LowestDeeds
 pub mod LowestRows
 pub mod LowestStacks
 pub mod LowestSteps
+pub mod Numbers
 pub mod OperandsKept
 pub mod Places
 pub mod PrintedDeeds

@@ -1,8 +1,9 @@
 -- Whole programs, computed: what each prints under a schedule.
-use Rattle.std.specs.Prelude.{◌≡◌, ℕ, true, false, None, Some, pos, [], ◌∷◌, length, sum_by, codes}
+use Rattle.std.specs.Prelude.{◌≡◌, ℕ, ◌+◌, true, false, None, Some, pos, [], ◌∷◌, length, sum_by, codes}
 use mathlib.Core.Path.{refl}
 use Rattle.ps_language.specs.declared.schedules.Entry.{Entry}
 use Rattle.ps_language.specs.Objects.{size_of}
+use Rattle.ps_language.specs.Operators.{operator_count}
 use Rattle.ps_language.specs.Worlds.{system_pairs, first_names, first_store, world, printed, IsProper, IsFinished}
 use Rattle.ps_language.specs.Worlds.{IsAllWaiting}
 use Rattle.ps_language.proofs.Evaluation.{evaluation}
@@ -13,11 +14,11 @@ turns context steps = record { context = context; steps = steps; refused = false
 
 -- ---- the start: entries of systemdict, names, words
 
-system_count : length system_pairs ≡ 104
+system_count : length system_pairs ≡ operator_count + 5
 unfolding evaluation
 system_count = refl
 
-name_count : length first_names ≡ 134
+name_count : length first_names ≡ 35 + operator_count
 unfolding evaluation
 name_count = refl
 

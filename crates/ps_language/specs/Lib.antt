@@ -14,8 +14,7 @@ pub mod Locks
 pub mod Lowest
 pub mod Machines
 pub mod Objects
-pub mod OperatorList
-pub mod OperatorNames
+pub mod Operators
 pub mod Outcome
 pub mod Owners
 pub mod Readers

@@ -21,8 +21,7 @@ use Rattle.ps_language.specs.Value.{Dictionary, Object, dictionary_object}
 use Rattle.ps_language.specs.World.{from_program, text_frame, running, Context, World}
 use Rattle.ps_language.specs.declared.schedules.Entry.{Entry}
 use Rattle.ps_language.specs.Schedules.{Move, moves}
-use Rattle.ps_language.specs.OperatorNames.{operator_name}
-use Rattle.ps_language.specs.OperatorList.{every_operator}
+use Rattle.ps_language.specs.Operators.{every_operator, operator_name}
 use Rattle.ps_language.specs.Readers.{literal, executable, null, boolean, literal_name}
 use Rattle.ps_language.specs.StepErrors.{error_text, new_error_pairs, new_error_dictionary}
 use Rattle.ps_language.specs.Contexts.{is_finished}
@@ -109,11 +108,11 @@ type_names =
     codes "arraytype" ∷ codes "stringtype" ∷ codes "dicttype" ∷ codes "locktype"
     ∷ codes "conditiontype" ∷ []
 
--- The names met at the start, in this order: the keys of systemdict in theirs, the errors by the
--- letter, the types of values, the keys of $error
+-- The names met at the start, in this order: the errors by the letter, the types of values, the
+-- keys of $error, what systemdict has beside the operators, and the operators in theirs
 unfoldable pub first_names : List (List ℕ)
-first_names = map operator_name every_operator ++ names_of value_pairs ++ map error_text every_error
-    ++ type_names ++ names_of new_error_pairs
+first_names = map error_text every_error ++ type_names ++ names_of new_error_pairs
+    ++ names_of value_pairs ++ map operator_name every_operator
 
 -- the first context, about to scan the program
 abbrev pub first_context : Context

@@ -1,5 +1,6 @@
-//! The definitions of the language: what a program means, for contracts to cite, and its laws. No
-//! code but the plain enums that definitions and code share.
+//! The definitions of the language: what a program means, for contracts to cite, and its laws. Of
+//! code it has the plain enums that definitions and code share, and how errors and operators are
+//! numbered and written.
 //!
 //! Why so:
 //! - Every crate cites the definitions from here, so a reader has one text to believe. A change

@@ -5,7 +5,7 @@ use Rattle.std.specs.Int.{w32, cast_unsigned}
 use Rattle.ps_word.specs.declared.words.Word.{Word}
 use Rattle.ps_word.specs.declared.values.Content.{Content}
 use Rattle.ps_word.specs.declared.values.Content.TheVariants.{Null, Integer, Boolean, Mark, Name, Operator, Array, Text, Dictionary, Lock, Condition, Body}
-use Rattle.ps_word.specs.OperatorNumbers.{operator_number}
+use Rattle.ps_language.specs.Operators.{operator_number}
 use Rattle.ps_word.specs.Format.{content_in, bit_of, packed}
 use Rattle.ps_mem.specs.Heap.{zero_word}
 

@@ -1,60 +1,89 @@
-//! The names that every run has met at its start, by number (PLRM2, 3.7).
+//! The names that every run has met at its start, by number (PLRM2, 3.7): the errors, the types, the
+//! keys of `$error`, what systemdict has beside the operators, and the operators.
+//!
+//! The operators come last, so that one more leaves each other number as it is. The keys of
+//! systemdict have neighbouring numbers, fewer than its index has places, so that no two share one.
 
 ghost use Rattle.std.specs.Prelude.{◌≡◌, ◌<◌, Some, slice_get};
 ghost use Rattle.ps_language.specs.Worlds.{first_names};
 
-use crate::texts::{error_text, operator_name};
-use ps_language::errors::ErrorName;
-use ps_word::operators::operator_of;
+use ps_language::errors::{ErrorName, error_text};
+use ps_language::operators::{OPERATORS, operator_at, operator_name};
+
+/// The number of `dictstackoverflow`; the other errors follow it by the letter.
+pub const FIRST_ERROR: u16 = 0;
+
+/// The number of `integertype`; the other types follow it.
+pub const FIRST_TYPE: u16 = 16;
+
+/// The numbers of the keys of `$error`.
+pub const NEWERROR: u16 = 27;
+
+pub const ERRORNAME: u16 = 28;
+
+pub const COMMAND: u16 = 29;
+
+/// The numbers of what systemdict has beside the operators.
+pub const TRUE: u16 = 30;
+
+pub const FALSE: u16 = 31;
+
+pub const NULL: u16 = 32;
+
+pub const SYSTEMDICT: u16 = 33;
+
+pub const USERDICT: u16 = 34;
+
+/// The number of `pop`; the other operators follow it in their order.
+pub const FIRST_OPERATOR: u16 = 35;
 
 /// How many they are.
-pub const FIRST_COUNT: u16 = 134;
+pub const FIRST_COUNT: u16 = FIRST_OPERATOR + OPERATORS as u16;
 
-/// The text of a number: the operators by theirs, what else systemdict has, the errors, the types
-/// and the keys of `$error`.
-pub fn first_name(number: u16) -> &'static [u8]
-    requires { number < 134 }
+/// The text of a number.
+pub(crate) fn first_name(number: u16) -> &'static [u8]
+    requires { number < FIRST_COUNT }
     ensures { slice_get first_names number ≡ Some result.now }
 {
-    if number < 99 {
-        return operator_name(operator_of(number as u8));
+    if number >= FIRST_OPERATOR {
+        return operator_name(operator_at((number - FIRST_OPERATOR) as u8));
     }
     match number {
-        99 => b"true",
-        100 => b"false",
-        101 => b"null",
-        102 => b"systemdict",
-        103 => b"userdict",
-        104 => error_text(ErrorName::DictStackOverflow),
-        105 => error_text(ErrorName::DictStackUnderflow),
-        106 => error_text(ErrorName::ExecStackOverflow),
-        107 => error_text(ErrorName::InvalidAccess),
-        108 => error_text(ErrorName::InvalidContext),
-        109 => error_text(ErrorName::InvalidExit),
-        110 => error_text(ErrorName::LimitCheck),
-        111 => error_text(ErrorName::RangeCheck),
-        112 => error_text(ErrorName::StackOverflow),
-        113 => error_text(ErrorName::StackUnderflow),
-        114 => error_text(ErrorName::SyntaxError),
-        115 => error_text(ErrorName::TypeCheck),
-        116 => error_text(ErrorName::Undefined),
-        117 => error_text(ErrorName::UndefinedResult),
-        118 => error_text(ErrorName::UnmatchedMark),
-        119 => error_text(ErrorName::VmError),
-        120 => b"integertype",
-        121 => b"booleantype",
-        122 => b"nulltype",
-        123 => b"marktype",
-        124 => b"nametype",
-        125 => b"operatortype",
-        126 => b"arraytype",
-        127 => b"stringtype",
-        128 => b"dicttype",
-        129 => b"locktype",
-        130 => b"conditiontype",
-        131 => b"newerror",
-        132 => b"errorname",
-        133 => b"command",
+        0 => error_text(ErrorName::DictStackOverflow),
+        1 => error_text(ErrorName::DictStackUnderflow),
+        2 => error_text(ErrorName::ExecStackOverflow),
+        3 => error_text(ErrorName::InvalidAccess),
+        4 => error_text(ErrorName::InvalidContext),
+        5 => error_text(ErrorName::InvalidExit),
+        6 => error_text(ErrorName::LimitCheck),
+        7 => error_text(ErrorName::RangeCheck),
+        8 => error_text(ErrorName::StackOverflow),
+        9 => error_text(ErrorName::StackUnderflow),
+        10 => error_text(ErrorName::SyntaxError),
+        11 => error_text(ErrorName::TypeCheck),
+        12 => error_text(ErrorName::Undefined),
+        13 => error_text(ErrorName::UndefinedResult),
+        14 => error_text(ErrorName::UnmatchedMark),
+        15 => error_text(ErrorName::VmError),
+        16 => b"integertype",
+        17 => b"booleantype",
+        18 => b"nulltype",
+        19 => b"marktype",
+        20 => b"nametype",
+        21 => b"operatortype",
+        22 => b"arraytype",
+        23 => b"stringtype",
+        24 => b"dicttype",
+        25 => b"locktype",
+        26 => b"conditiontype",
+        27 => b"newerror",
+        28 => b"errorname",
+        29 => b"command",
+        30 => b"true",
+        31 => b"false",
+        32 => b"null",
+        33 => b"systemdict",
+        34 => b"userdict",
         _ => unreachable!(),
     }
 }

@@ -13,9 +13,8 @@
 //!   words are made without a look-up.
 #![tactic(auto)]
 
-mod first;
+pub mod first;
 mod guesses;
 mod names;
-pub mod texts;
 
 pub use names::{NAME_LIMIT, NAMES_LIMIT, NameId, Names, NamesFault};

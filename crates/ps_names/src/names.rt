@@ -101,7 +101,8 @@ impl Names {
     /// Whether a text has this number.
     #[inline(always)]
     fn is_at(&self, id: NameId, text: &[u8]) -> bool
-        ensures { IsTrue result ↔ (place_of text.now self.now ≡ Some id.0) }
+        ensures is { IsTrue result ↔ (place_of text.now self.now ≡ Some id.0) }
+        ensures names { AreNames self.now }
     {
         usize::from(id.0) < self.len() && self.text(id) == text
     }
@@ -113,6 +114,7 @@ impl Names {
         ensures place { option_map (λ id. id.0) result ≡ place_of text.now self.now }
         ensures within { IfSome result (λ id. id.0 < length self.now) }
         ensures stands { IfSome result (λ id. slice_get self.now id.0 ≡ Some text.now) }
+        ensures names { AreNames self.now }
     {
         let id = guess(text);
         if self.is_at(id, text) {
@@ -141,6 +143,7 @@ impl Names {
     pub fn text(&self, id: NameId) -> &[u8]
         ensures bytes { result.now ≡ unwrap_or (slice_get self.now id.0) [] }
         ensures found { id.0 < length self.now → place_of result.now self.now ≡ Some id.0 }
+        ensures names { AreNames self.now }
     {
         match self.texts.get_index(usize::from(id.0)) {
             Some(text) => text.as_slice(),
@@ -162,6 +165,7 @@ impl Names {
         ensures stands { IfOk result (λ id. slice_get self.new id.0 ≡ Some text.now) }
         ensures found { IfOk result (λ id. place_of text.now self.new ≡ Some id.0) }
         ensures below { IfOk result (λ id. id.0 < names_limit) }
+        ensures are { AreNames self.new }
 
         // Every number keeps its text.
         ensures kept { (number : ℕ) → number < length self.old → slice_get self.new number
@@ -200,6 +204,7 @@ impl Names {
         requires short { length text.now ≤ name_limit }
         requires room { length self.old < names_limit }
         ensures added { OnOk result (self.new ≡ self.old ++ text.now ∷ []) }
+        ensures are { AreNames self.new }
         ensures err { OnErr result (self.new ≡ self.old) }
     {
         let place = self.texts.len();

@@ -4,6 +4,7 @@
 
 ghost use Rattle.std.specs.Prelude.{◌≡◌, ℕ, ◌+◌, ◌∷◌, ◌≤◌, ◌<◌, ◌^◌, Some, IsTrue, List, drop};
 ghost use Rattle.std.specs.Prelude.{length};
+ghost use Rattle.ps_language.specs.Limits.{frame_limit, operand_limit};
 ghost use Rattle.ps_language.specs.Control as rows;
 ghost use Rattle.ps_mem.specs.Heap.{Heap};
 ghost use Rattle.ps_stacks.specs.Tops.{first_of};
@@ -52,9 +53,9 @@ impl Ahead {
 #[inline(always)]
 fn may_enter(operands: &Operands, frames: &Frames, count: usize, body: Part) -> bool
     requires few { count ≤ 2 }
-    ensures operands { IsTrue result → count + length operands.now ≤ 500 }
+    ensures operands { IsTrue result → count + length operands.now ≤ operand_limit }
     ensures body { IsTrue result → 1 ≤ body.length }
-    ensures frames { IsTrue result → 2 + length frames.now ≤ 250 }
+    ensures frames { IsTrue result → 2 + length frames.now ≤ frame_limit }
 {
     if body.length == 0 || frames.len() >= FRAME_LIMIT - 1 {
         return false;
@@ -115,7 +116,7 @@ pub fn repeat_ahead(operands: &Operands, frames: &mut Frames, count: usize, body
 fn push_control(operands: &mut Operands, frames: &mut Frames, state: ForLoop, next: i64, word: Word)
     requires top { first_of frames.old ≡ Some (Frame.For state.control state.increment
         state.limit state.body) }
-    requires room { length operands.old < 500 }
+    requires room { length operands.old < operand_limit }
     ensures frames { frames.new ≡ Frame.For next state.increment state.limit state.body
         ∷ drop 1 frames.old }
     ensures operands { operands.new ≡ word ∷ operands.old }

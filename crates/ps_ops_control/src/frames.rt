@@ -1,6 +1,7 @@
 //! The frames of a context's execution stack (PLRM2, 3.4).
 
 ghost use Rattle.std.specs.Prelude.{◌≡◌, ◌∷◌, ◌<◌, ◌≤◌, drop, length};
+ghost use Rattle.ps_language.specs.Limits.{frame_limit};
 
 use ps_stacks::ExecutionStack;
 use ps_word::values::Part;
@@ -111,7 +112,7 @@ pub type Frames = ExecutionStack<Frame>;
 /// Pushes a frame for which there is room.
 #[inline]
 pub fn push_frame(frames: &mut Frames, frame: Frame)
-    requires { length frames.old < 250 }
+    requires { length frames.old < frame_limit }
     ensures { frames.new ≡ frame ∷ frames.old }
 {
     let _ = frames.push(frame);

@@ -4,6 +4,7 @@ ghost use Rattle.std.specs.Prelude.{◌≡◌, ℕ, ◌+◌, ◌++◌, ◌≤◌
 ghost use Rattle.std.specs.Prelude.{length};
 ghost use Rattle.std.specs.Prelude.{FitsSigned};
 ghost use Rattle.std.specs.Int.{w32};
+ghost use Rattle.ps_language.specs.Limits.{operand_limit};
 ghost use Rattle.ps_language.specs.Readers.{integer};
 ghost use Rattle.ps_mem.specs.Meaning.{value_of};
 ghost use Rattle.ps_ops_operands.specs.Plain.{IsPlain};
@@ -50,7 +51,7 @@ impl TurnOperands {
     /// Pushes these, for which there is room.
     #[inline(always)]
     pub(crate) fn push(self, operands: &mut Operands)
-        requires room { length (words_of self) + length operands.old ≤ 500 }
+        requires room { length (words_of self) + length operands.old ≤ operand_limit }
         ensures { operands.new ≡ words_of self ++ operands.old }
     {
         match self {

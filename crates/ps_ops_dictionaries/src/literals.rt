@@ -7,7 +7,7 @@ ghost use Rattle.std.specs.List.{list_all, list_any};
 ghost use Rattle.std.specs.Str.{bytes_eq};
 ghost use Rattle.ps_language.specs.Access.{may_read_text};
 ghost use Rattle.ps_language.specs.Dictionaries.{fits_key};
-ghost use Rattle.ps_language.specs.Limits.{names_limit};
+ghost use Rattle.ps_language.specs.Limits.{names_limit, operand_limit};
 ghost use Rattle.ps_language.specs.Outcome.{fails, leaves};
 ghost use Rattle.ps_language.specs.Readers as language;
 ghost use Rattle.ps_language.specs.Rows.{naming_row};
@@ -46,7 +46,7 @@ use ps_word::words::Word;
 
 /// Whether a null stands among the keys.
 fn has_null_key(elements: &[Word]) -> bool
-    requires few { length elements.now < 500 }
+    requires few { length elements.now < operand_limit }
     ensures { (h : Heap) (names : List (List ℕ)) → AreValues h elements.now
         → list_all (λ k. not (language.is_null k)) (keys_among (values_in h names elements.now))
         ≡ not result }
@@ -61,7 +61,7 @@ fn has_null_key(elements: &[Word]) -> bool
 
 /// Whether a string that may not be read stands among the keys.
 fn has_hidden_key(elements: &[Word]) -> bool
-    requires few { length elements.now < 500 }
+    requires few { length elements.now < operand_limit }
     ensures { (h : Heap) (names : List (List ℕ))
         → list_all may_read_text (keys_among (values_in h names elements.now)) ≡ not result }
 {
@@ -86,7 +86,7 @@ fn is_long_key(word: Word) -> bool
 
 /// Whether such a string stands among the keys.
 fn has_long_key(elements: &[Word]) -> bool
-    requires few { length elements.now < 500 }
+    requires few { length elements.now < operand_limit }
     ensures { (h : Heap) (names : List (List ℕ))
         → list_all fits_key (keys_among (values_in h names elements.now)) ≡ not result }
 {
@@ -118,7 +118,7 @@ fn is_before<M: Memory>(
 ) -> bool
     requires sound { IsSound (M.heap memory.old) }
     requires held { AreValues (M.heap memory.old) elements.now }
-    requires few { length elements.now < 500 }
+    requires few { length elements.now < operand_limit }
     requires within { 2 * before ≤ length elements.now }
     requires short { (h : Heap) (met : List (List ℕ))
         → list_all fits_key (keys_among (values_in h met elements.now)) ≡ true }
@@ -143,7 +143,7 @@ fn is_before<M: Memory>(
 fn is_new<M: Memory>(memory: &mut M, names: &Names, elements: &[Word], place: usize) -> bool
     requires sound { IsSound (M.heap memory.old) }
     requires held { AreValues (M.heap memory.old) elements.now }
-    requires few { length elements.now < 500 }
+    requires few { length elements.now < operand_limit }
     requires place { 2 * place < length elements.now }
     requires short { (h : Heap) (met : List (List ℕ))
         → list_all fits_key (keys_among (values_in h met elements.now)) ≡ true }
@@ -167,7 +167,7 @@ fn names_fit<M: Memory>(memory: &mut M, names: &Names, elements: &[Word]) -> boo
     requires sound { IsSound (M.heap memory.old) }
     requires held { AreValues (M.heap memory.old) elements.now }
     requires even { 2 * (length elements.now / 2) ≡ length elements.now }
-    requires few { length elements.now < 500 }
+    requires few { length elements.now < operand_limit }
     requires short { (h : Heap) (met : List (List ℕ))
         → list_all fits_key (keys_among (values_in h met elements.now)) ≡ true }
     ensures heap { M.heap memory.new ≡ M.heap memory.old }
@@ -201,7 +201,7 @@ fn test_elements<M: Memory>(
 ) -> Result<(), ErrorName>
     requires sound { IsSound (M.heap memory.old) }
     requires held { AreValues (M.heap memory.old) elements.now }
-    requires few { length elements.now < 500 }
+    requires few { length elements.now < operand_limit }
     ensures heap { M.heap memory.new ≡ M.heap memory.old }
     ensures grants { M.grants memory.new ≡ M.grants memory.old }
     ensures even { OnOk result (2 * (length elements.now / 2) ≡ length elements.now) }
@@ -249,7 +249,7 @@ fn form_names<M: Memory>(memory: &mut M, names: &mut Names, elements: &[Word]) -
     requires sound { IsSound (M.heap memory.old) }
     requires held { AreValues (M.heap memory.old) elements.now }
     requires even { 2 * (length elements.now / 2) ≡ length elements.now }
-    requires few { length elements.now < 500 }
+    requires few { length elements.now < operand_limit }
     requires short { (h : Heap) (met : List (List ℕ))
         → list_all fits_key (keys_among (values_in h met elements.now)) ≡ true }
     requires distinct { AllPairs (λ one later. one ≢ later) names.old }
@@ -275,7 +275,7 @@ fn gather_pairs<M: Memory>(memory: &mut M, names: &Names, elements: &[Word], wor
     requires sound { IsSound (M.heap memory.old) }
     requires held { AreValues (M.heap memory.old) elements.now }
     requires even { 2 * (length elements.now / 2) ≡ length elements.now }
-    requires few { length elements.now < 500 }
+    requires few { length elements.now < operand_limit }
     requires empty { words.old.items ≡ [] }
     requires room { length elements.now ≤ vec_capacity words.old }
     ensures heap { M.heap memory.new ≡ M.heap memory.old }
@@ -315,7 +315,7 @@ fn make_pairs<M: Memory>(
     requires ready { IsReady (M.heap memory.old) operands.old }
     requires empty { words.old.items ≡ [] }
     requires within { depth < length operands.old }
-    requires few { depth < 500 }
+    requires few { depth < operand_limit }
     requires even { 2 * (depth / 2) ≡ depth }
     requires distinct { AllPairs (λ one later. one ≢ later) names.now }
     ensures empty { words.new.items ≡ [] }

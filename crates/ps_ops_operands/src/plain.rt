@@ -2,6 +2,7 @@
 //! memory (PLRM2, 3.3.1).
 
 ghost use Rattle.std.specs.Prelude.{◌≡◌, ◌<◌, ◌∷◌, ℕ, List, length};
+ghost use Rattle.ps_language.specs.Limits.{operand_limit};
 ghost use Rattle.ps_language.specs.Readers as readers;
 ghost use Rattle.ps_language.specs.Value.{mark_value};
 ghost use Rattle.ps_mem.specs.Meaning.{value_of};
@@ -53,7 +54,7 @@ pub fn null() -> Word
 /// Pushes an operand for which there is room.
 #[inline]
 pub fn push_within(operands: &mut Operands, word: Word)
-    requires { length operands.old < 500 }
+    requires { length operands.old < operand_limit }
     ensures { operands.new ≡ word ∷ operands.old }
 {
     operands.push_reserved(word);

@@ -3,6 +3,7 @@
 ghost use Rattle.std.specs.Prelude.{◌≡◌, ◌∷◌, ◌+◌, ◌^◌, ◌<◌, ◌≤◌, pos, length, IfSome, IfNone};
 ghost use Rattle.std.specs.Prelude.{OnOk, OnErr, unsigned_abs};
 ghost use Rattle.std.specs.Int.{int_rem_euclid};
+ghost use Rattle.ps_language.specs.Limits.{operand_limit};
 ghost use Rattle.ps_language.specs.RowsStack as rows;
 ghost use Rattle.ps_ops_operands.specs.Does.{Does, Pushes, copy_number_row};
 ghost use Rattle.ps_ops_operands.specs.Kept.{AreFrom};
@@ -212,7 +213,7 @@ pub fn counttomark(operands: &mut Operands) -> Result<(), ErrorName>
 /// By how many places a group is rotated.
 fn rotation_of(places: i32, count: usize) -> usize
     requires some { 0 < count }
-    requires few { count ≤ 500 }
+    requires few { count ≤ operand_limit }
     ensures value { result ≡ unsigned_abs (int_rem_euclid places (pos count)) }
     ensures within { result ≤ count }
 {
@@ -223,7 +224,7 @@ fn rotation_of(places: i32, count: usize) -> usize
 #[tactic(auto, using(crate::proofs::Marks::search_lemmas))]
 pub fn mark_depth(operands: &Operands) -> Option<usize>
     ensures bound { IfSome result (λ depth. depth < length operands.now) }
-    ensures small { IfSome result (λ depth. depth < 500) }
+    ensures small { IfSome result (λ depth. depth < operand_limit) }
     ensures found { IfSome result (λ depth. IsMarkAt operands.now depth) }
     ensures none { IfNone result (HasNoMark operands.now) }
 {

@@ -1,6 +1,7 @@
 //! The operators that read arrays (PLRM2, 8 'Operators': Array).
 
 ghost use Rattle.std.specs.Prelude.{◌≡◌, ◌+◌, ◌<◌, ◌≤◌, ◌++◌, length, reverse, slice_range};
+ghost use Rattle.ps_language.specs.Limits.{operand_limit};
 ghost use Rattle.ps_language.specs.RowsSequences.{aload_row};
 ghost use Rattle.ps_mem.specs.Heap.{fields_at};
 ghost use Rattle.ps_mem.specs.References.{StandsAs};
@@ -90,7 +91,7 @@ pub fn getinterval<M: Memory>(operands: &mut Operands, memory: &M) -> Result<(),
 fn push_elements<M: Memory>(operands: &mut Operands, memory: &mut M, part: Part)
     requires stands { StandsAs (M.heap memory.old) Kind.Array part.address
         (part.offset + part.length) }
-    requires room { length operands.old + part.length ≤ 500 }
+    requires room { length operands.old + part.length ≤ operand_limit }
     ensures heap { M.heap memory.new ≡ M.heap memory.old }
     ensures grants { M.grants memory.new ≡ M.grants memory.old }
     ensures pushed { operands.new ≡ reverse

@@ -27,7 +27,6 @@ fn name_length(names: &Names, number: u16) -> u32
     ensures bytes { result ≡ length (text_of_name names.now number) }
     ensures few { result < 2 ^ 31 }
 {
-    let _few = names.len();
     names.text(NameId(number)).len() as u32
 }
 

@@ -2,6 +2,7 @@
 
 ghost use Rattle.std.specs.Prelude.{◌≡◌, ◌⊎◌, ℕ, ◌+◌, ◌<◌, ◌≤◌, ◌^◌, ◌&&◌, List, [], length, nat_eq, is_some, IsTrue, Some, IfSome, IfOk, OnErr, vec_capacity};
 ghost use Rattle.std.specs.List.{starts_with};
+ghost use Rattle.ps_language.specs.Limits.{operand_limit};
 ghost use Rattle.ps_language.specs.Value.{Store};
 ghost use Rattle.ps_language.specs.Access.{bytes, part_bytes};
 ghost use Rattle.ps_language.specs.Access as language;
@@ -346,7 +347,7 @@ pub fn search<M: Memory>(
 /// place of the two topmost operands.
 fn push_found(operands: &mut Operands, string: Word, part: Part, place: u16, count: u16)
     requires operands { 2 ≤ length operands.old }
-    requires room { length operands.old + 2 ≤ 500 }
+    requires room { length operands.old + 2 ≤ operand_limit }
     requires string { readers.as_text (content_in string.0) ≡ Some part }
     requires word { IsWord string.0 }
     requires end { part.offset + part.length < 2 ^ 16 }

@@ -20,7 +20,7 @@ use Rattle.ps_ops_types.specs.Types.{type_place}
 use Rattle.ps_ops_types.proofs.First.{name_met, name_within}
 
 first_at : (births : ℕ → ℕ) (names : List (List ℕ)) (c : Content)
-    → slice_get first_names (120 + type_place c) ≡ Some (type_name (what_of births names c))
+    → slice_get first_names (16 + type_place c) ≡ Some (type_name (what_of births names c))
 unfolding first_names
 first_at births names (Integer number) = refl
 first_at births names (Boolean truth) = refl
@@ -36,14 +36,14 @@ first_at births names (Condition address) = refl
 first_at births names (Body address) = refl
 
 type_at : (births : ℕ → ℕ) (names : List (List ℕ)) (w : Word)
-    → slice_get first_names (120 + type_place (content_in w.0))
+    → slice_get first_names (16 + type_place (content_in w.0))
     ≡ Some (type_name (value_of births names w).what)
 unfolding value_of
 type_at births names w = first_at births names (content_in w.0)
 
 pub type_observes : (w r : Word)
     → value_in r.0
-    ≡ record { content = Name (120 + type_place (content_in w.0)); executable = true }
+    ≡ record { content = Name (16 + type_place (content_in w.0)); executable = true }
     → (h : Heap) (old : List Word) → Some w ≡ first_of old
     → ObservesMet (λ store. type_row) (Ok tt) h old (r ∷ drop 1 old)
 type_observes w r is h old one = record {

@@ -8,12 +8,9 @@ ghost use Rattle.ps_ops_types.specs.Types as types;
 ghost use Rattle.ps_ops_operands.specs.FirstNames.{ObservesMet};
 
 use ps_language::errors::ErrorName;
+use ps_names::first::FIRST_TYPE;
 use ps_ops_operands::Operands;
 use ps_word::values::{Content, Value};
-
-/// The number of `integertype` among the names that every run has met at its start; the other types
-/// follow it.
-const FIRST_TYPE: u16 = 120;
 
 /// The place of a type among the types.
 fn type_place(content: Content) -> u16

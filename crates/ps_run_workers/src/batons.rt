@@ -18,11 +18,12 @@ use crate::paces::Pace;
 use crate::waits::Waits;
 use ps_core_laws::collected::Counts;
 use ps_ctx::deeds::Deeds;
+use ps_ctx::notes::Note;
 use ps_mem::Memory;
 use ps_ops_operands::failure::NotMade;
 use ps_step_interpreter::interprets::Interpret;
 use ps_vault::{
-    Advanced, Config, Job, Outcome, Room, RunFault, Screen, Told, Vault, Viewer, Watched,
+    Advanced, Config, Job, Outcome, Room, RunFault, Screen, Vault, Viewer, Watched, wish_of,
 };
 use std::alloc::Global;
 use std::marker::{Model, PhantomData};
@@ -33,8 +34,8 @@ pub(crate) const TURNS: u32 = 1024;
 /// How many steps are left of a turn that had so many, behind these.
 fn left_behind(rest: u32, advanced: Advanced) -> u32 {
     match advanced.told {
-        Told::TurnEnds => 0,
-        Told::Goes | Told::HeldUp(_) => rest.saturating_sub(advanced.made),
+        Ok(Note::TurnEnds) => 0,
+        Ok(_) | Err(_) => rest.saturating_sub(advanced.made),
     }
 }
 
@@ -317,15 +318,15 @@ impl<O: Origin, M: Memory + Drop, S: Interpret + Drop, D: Deeds + Drop, V: Viewe
         self.made += advanced.made;
         let left = left_behind(rest, advanced);
         match advanced.told {
-            Told::HeldUp(reason) => {
+            Err(reason) => {
                 self.after = context;
                 self.rest = left;
                 Err(reason)
             }
-            Told::Goes | Told::TurnEnds => {
+            Ok(note) => {
                 self.after = context;
                 self.rest = left;
-                Ok(advanced.wish)
+                Ok(wish_of(note))
             }
         }
     }

@@ -3,9 +3,9 @@
 
 ghost use Rattle.std.specs.Prelude.{◌≡◌};
 
-use ps_core_laws::Closing;
 use ps_core_laws::collected::Counts;
 use ps_core_laws::sides::{Collects, LoggedMemory, Works};
+use ps_core_laws::{Closing, Flip};
 use ps_language::kinds::Kind;
 use ps_mem::marks::Mark;
 use ps_mem::{FieldAt, Memory, NeedFault, Permit, Slot};
@@ -105,7 +105,9 @@ impl<M: LoggedMemory + Drop, G: Gate> Memory for Gated<'_, M, G> {
 }
 
 impl<M: LoggedMemory + Drop, G: Gate> LoggedMemory for Gated<'_, M, G> {
-    fn is_open(&mut self) -> bool {
+    ghost did = { λ g. M.did g.memory };
+
+    fn is_open(&self) -> bool {
         self.memory.is_open()
     }
 
@@ -162,11 +164,15 @@ impl<C: Works + Drop, G: Gate> Works for GatedCollector<'_, C, G> {
 
 impl<'g, M: LoggedMemory + Drop, G: Gate, C: Collects<M> + Drop> Collects<Gated<'g, M, G>>
     for GatedCollector<'g, C, G> {
+    ghost did = { λ c g. C.did c.collector g.memory };
+
+    ghost answers = { λ c g. C.answers c.collector g.memory };
+
     fn hand_over(&mut self, memory: &mut Gated<'g, M, G>, roots: &[Word]) {
         self.collector.hand_over(&mut memory.memory, roots);
     }
 
-    fn try_flip(&mut self, memory: &mut Gated<'g, M, G>, roots: &mut [Word]) -> bool {
+    fn try_flip(&mut self, memory: &mut Gated<'g, M, G>, roots: &mut [Word]) -> Flip {
         self.collector.try_flip(&mut memory.memory, roots)
     }
 

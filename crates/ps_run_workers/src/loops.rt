@@ -140,7 +140,7 @@ impl<
             let mut held = self
                 .bell
                 .wait_while(rt, self.baton.lock(rt), |baton| baton.rests());
-            held.attend(&mut lent);
+            held.advance_cycle(&mut lent);
             let (over, copies) = (held.is_over(), held.waits.cycle.is_handed());
             drop(held);
             self.workers.notify_all();

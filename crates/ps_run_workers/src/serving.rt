@@ -9,9 +9,9 @@ use crate::batons::{Baton, TURNS};
 use crate::cycles::Cycle;
 use crate::origins::Origin;
 use crate::waits::Wanting;
-use ps_core_laws::Closing;
 use ps_core_laws::collected::Counts;
 use ps_core_laws::sides::{Collects, LoggedMemory, Works};
+use ps_core_laws::{Closing, Flip};
 use ps_ctx::deeds::Deeds;
 use ps_mem::Slot;
 use ps_ops_operands::failure::NotMade;
@@ -214,9 +214,10 @@ impl<
         }
     }
 
-    /// What the collector's thread does with the baton: room for the step that wants it, or what is
-    /// next of the open cycle.
-    pub(crate) fn attend<C: Collects<M> + Works>(&mut self, lent: &mut Lent<C>)
+    /// What the collector's thread does with the baton: room for the step that wants it, or the open
+    /// cycle goes on by one arrow of the picture over `Cycle`. Where a flip can't come at `Stopped`,
+    /// the cycle is ended in this hold.
+    pub(crate) fn advance_cycle<C: Collects<M> + Works>(&mut self, lent: &mut Lent<C>)
         ensures goes_on { GoesOn self.old self.new }
         ensures over { IsSome self.old.outcome → self.new ≡ self.old }
     {
@@ -225,28 +226,15 @@ impl<
         }
         if self.waits.is_wanted() {
             self.serve(lent);
-        } else {
-            self.advance_cycle(lent);
+            return;
         }
-    }
-
-    /// The open cycle, if there is one, goes on by one arrow of the picture over `Cycle`. Where a
-    /// flip can't come at `Stopped`, the cycle is ended in this hold.
-    fn advance_cycle<C: Collects<M> + Works>(&mut self, lent: &mut Lent<C>)
-        ensures { SameProgress self.old self.new }
-    {
         if !self.vault.is_open() {
             self.waits.enter(Cycle::Closed);
             return;
         }
         self.waits.wake_full();
         match self.waits.cycle {
-            Cycle::Closed | Cycle::Open => {
-                self.vault.hand_over(&mut lent.collector, &mut lent.roots);
-                let used = self.vault.used();
-                self.pace.begin(used, lent.collector.copied());
-                self.waits.enter(Cycle::Copying);
-            }
+            Cycle::Closed | Cycle::Open => self.begin_copying(lent),
             Cycle::Copying => {
                 if self.close_logs() {
                     self.waits.enter(Cycle::Draining);
@@ -256,8 +244,34 @@ impl<
                 self.vault.hand_over(&mut lent.collector, &mut lent.roots);
                 self.waits.enter(Cycle::Last);
             }
-            Cycle::Last | Cycle::Stopped => self.flip(lent),
+            Cycle::Last => {
+                if self.may_flip(1) {
+                    match self
+                        .vault
+                        .flip_or_hand_over(&mut lent.collector, &mut lent.roots)
+                    {
+                        Flip::Done => self.rest(),
+                        Flip::NotReady(_) => self.waits.enter(Cycle::Stopped),
+                    }
+                }
+            }
+            Cycle::Stopped => {
+                if self.may_flip(1) {
+                    self.vault.flip_or_end(&mut lent.collector, &mut lent.roots);
+                    self.rest();
+                }
+            }
         }
+    }
+
+    /// The collector is handed the roots of the open cycle, and workers are paced from then on.
+    fn begin_copying<C: Collects<M> + Works>(&mut self, lent: &mut Lent<C>)
+        ensures { SameProgress self.old self.new }
+    {
+        self.vault.hand_over(&mut lent.collector, &mut lent.roots);
+        let used = self.vault.used();
+        self.pace.begin(used, lent.collector.copied());
+        self.waits.enter(Cycle::Copying);
     }
 
     /// Closes all logs. False: one was full.
@@ -295,27 +309,6 @@ impl<
     {
         let flips = u64::from(self.vault.counts().flips);
         flips + u64::from(more) <= 3 * u64::from(self.made) + 3
-    }
-
-    /// The flip is tried. Where it can't come the roots of now are handed over, and workers wait
-    /// until what they reach is copied. Where it can't come then either, the cycle is ended in this
-    /// hold.
-    fn flip<C: Collects<M>>(&mut self, lent: &mut Lent<C>)
-        requires open { self.old.story.cycle_open ≡ true }
-        ensures { SameProgress self.old self.new }
-    {
-        if !self.may_flip(1) {
-            return;
-        }
-        if !self.vault.try_flip(&mut lent.collector, &mut lent.roots) {
-            if self.waits.cycle == Cycle::Last {
-                self.vault.hand_over(&mut lent.collector, &mut lent.roots);
-                self.waits.enter(Cycle::Stopped);
-                return;
-            }
-            self.vault.end_cycle(&mut lent.collector, &mut lent.roots);
-        }
-        self.rest();
     }
 
     /// A whole cycle, all stopped; and the step that wanted room, which is refused where it finds

@@ -23,7 +23,7 @@ use Rattle.ps_step_outcome.specs.declared.turned.Turned.TheVariants.{Goes}
 use Rattle.ps_step_outcome.specs.Turns.{Turns, TurnsWith, nothing_more}
 use Rattle.ps_step_outcome.proofs.Composing.{turns_as, turns_shown}
 use Rattle.ps_step_execute.specs.Quick.{IsTreated, TreatsAs}
-use Rattle.ps_step_execute.specs.declared.quick.Quick.TheVariants.{Done as QuickDone}
+use Rattle.ps_step_execute.specs.declared.quick.Fast.TheVariants.{Done as FastDone}
 use Rattle.ps_ops_control.specs.declared.ahead.Ahead.TheVariants as ahead
 use Rattle.ps_step_execute.specs.Values.{Asks, EntersIn, GoesAlone, among, executed_asks, done_turn, pushed_turn}
 use Rattle.ps_step_execute.specs.Values.{treated_asks, treated_turn}
@@ -36,9 +36,8 @@ use Rattle.ps_step_interpreter.specs.OwnSteps.{HasRun}
 use Rattle.ps_step_interpreter.proofs.Running.{run_more}
 use Rattle.ps_step_tokens.specs.Tokens.{token_asks, token_turn}
 use Rattle.ps_step_tokens.specs.Words.{IsDoneAs}
-use Rattle.ps_step.specs.declared.tokens.Read.{Read}
-use Rattle.ps_step.specs.declared.tokens.Read.TheVariants.{Done, Treats, Left}
-use Rattle.ps_step.specs.Reading.{read_to, DoesToken, Reads, ReadsWord, IsRead}
+use Rattle.ps_step_frames.specs.declared.elements.Element.{Element}
+use Rattle.ps_step.specs.Reading.{read_to, DoesToken, Read, Reads, ReadsWord, IsRead}
 use Rattle.ps_step.specs.Steps.{own_asks}
 use Rattle.ps_step.specs.Texts.{scan_at, scanned_asks, text_asks, bytes_scanned, IsScanned, Starves, IsTaken, Scans}
 use Rattle.ps_step.proofs.Ahead.{turned_behind}
@@ -146,7 +145,7 @@ module _ (asks : Asks) (source : Source) (at : ℕ) (start : Lent)
     IsScanned (Starves (source_of (birth_at start.heap) source) outcome) text result outcome)
     (held : IsTaken (IsSourceAt start.heap (length start.program) source) text result) where
   pub read_taken : (attempt : Attempt) (new : List Word) (end : ℕ)
-      → Reads asks start.heap start.dictionaries start.names text (Done end) result start.operands
+      → Reads asks start.heap start.dictionaries start.names text (Ok end) result start.operands
       new
       → Turns (text_asks asks source at (drop 1 start.frames)) running_turn attempt (Ok Goes)
       (read_to source at start) (read_to source end (record start { operands = new }))
@@ -157,7 +156,7 @@ module _ (asks : Asks) (source : Source) (at : ℕ) (start : Lent)
           → let outcome = scan_at source at start s in
           IsScanned (Starves (source_of (birth_at start.heap) source) outcome) text result outcome)
           → IsTaken (IsSourceAt start.heap (length start.program) source) text result
-          → Reads asks start.heap start.dictionaries start.names text (Done end) result
+          → Reads asks start.heap start.dictionaries start.names text (Ok end) result
           start.operands new
           → Turns (text_asks asks source at (drop 1 start.frames)) running_turn attempt (Ok Goes)
           (read_to source at start) (read_to source end (record start { operands = new }))
@@ -174,19 +173,20 @@ module _ (asks : Asks) (source : Source) (at : ℕ) (start : Lent)
       by (Ok None) scanned held does = absurd does
       by (Err fault) scanned held does = absurd does
 
-  pub is_read : (new : List Word) (word value : Word) (end : ℕ)
-      → Reads asks start.heap start.dictionaries start.names text (Treats word value end) result
-      start.operands new → IsRead asks source at word value end (read_to source at start)
-  is_read new word value end = by result scanned held
+  pub is_read : (new : List Word) (known : Element × ℕ)
+      → Reads asks start.heap start.dictionaries start.names text (Err (Some known)) result
+      start.operands new
+      → IsRead asks source at known.0.word known.0.value known.1 (read_to source at start)
+  is_read new known = by result scanned held
     where
       by : (result : Result (Option Token) Fault)
           → ((s : Store) → IsShown (read_to source at start) s
           → let outcome = scan_at source at start s in
           IsScanned (Starves (source_of (birth_at start.heap) source) outcome) text result outcome)
           → IsTaken (IsSourceAt start.heap (length start.program) source) text result
-          → Reads asks start.heap start.dictionaries start.names text (Treats word value end)
+          → Reads asks start.heap start.dictionaries start.names text (Err (Some known))
           result start.operands new
-          → IsRead asks source at word value end (read_to source at start)
+          → IsRead asks source at known.0.word known.0.value known.1 (read_to source at start)
       by (Ok (Some token)) scanned held reads = rw reads.1 (record {
         token = token_of text token.kind;
         scanned = scanned;
@@ -207,7 +207,7 @@ pub literal_does : (asks : Asks) (heap : Heap) (dictionaries : List Word) (names
     → DoesToken asks heap dictionaries names token old new
 literal_does asks heap dictionaries names token word old new is literal pushed =
     word_does asks heap dictionaries names token word old new is
-    (treated_comes asks heap dictionaries word old new ahead.Goes word QuickDone refl (is.held heap)
+    (treated_comes asks heap dictionaries word old new ahead.Goes word FastDone refl (is.held heap)
     (own_treats asks heap dictionaries word
     (λ births names. literal_unmade word births names literal)
     (λ births names. literal_unnamed word births names literal))
@@ -223,12 +223,12 @@ pub word_reads : (asks : Asks) (heap : Heap) (dictionaries : List Word) (names :
     → Reads asks heap dictionaries names (bytes_scanned source program list) read (Ok (Some token))
     old new
     → ReadsWord asks heap dictionaries names program list source at read old new
-word_reads asks heap dictionaries names program list source at token scanned held Left old new reads =
-    reads
-word_reads asks heap dictionaries names program list source at token scanned held (Done end) old new
+word_reads asks heap dictionaries names program list source at token scanned held (Err None) old new
+    reads = reads
+word_reads asks heap dictionaries names program list source at token scanned held (Ok end) old new
     reads = record { token = token; scanned = scanned; held = held; reads = reads }
 word_reads asks heap dictionaries names program list source at token scanned held
-    (Treats word value end) old new reads =
+    (Err (Some known)) old new reads =
     record { token = token; scanned = scanned; held = held; reads = reads }
 
 -- ---- steps

@@ -15,11 +15,11 @@ use Rattle.ps_word.specs.declared.values.Part.{Part}
 use Rattle.ps_scan.specs.declared.tokens.Token.{Token}
 use Rattle.ps_ops_control.specs.declared.frames.Source.{Source}
 use Rattle.ps_ops_control.specs.declared.frames.Source.TheVariants.{Program, Text}
-use Rattle.ps_step.specs.declared.texts.TokenTaken.{TokenTaken}
+use Rattle.ps_ops_operands.specs.declared.failure.NotMade.{NotMade as Reason}
+use Rattle.ps_step_outcome.specs.declared.turned.Turned.{Turned}
 use Rattle.ps_step.specs.declared.windows.Window.{Window}
-use Rattle.ps_step.specs.declared.texts.TokenTaken.TheVariants.{Done, Turned}
 use Rattle.ps_step.specs.Texts.{Scans}
-use Rattle.ps_step.specs.Windows.{AreRead, IsWindow, StandsBehind, OnDone}
+use Rattle.ps_step.specs.Windows.{AreRead, IsWindow, StandsBehind}
 use Rattle.ps_step.proofs.Scanning.{window_scanned, fronted, rest_scanned, token_further}
 
 nothing_at : (all : List ℕ) (start : ℕ) → [] ≡ slice_range all start (start + 0)
@@ -122,6 +122,7 @@ words_in_window h part at program window read (Some token) stands =
 words_in_window h part at program window read None stands = tt
 
 -- what follows of what was done by operands alone
-pub done_then : {P Q : Type 0} (taken : TokenTaken) → OnDone taken P → (P → Q) → OnDone taken Q
-done_then (Done end) holds follows = follows holds
-done_then (Turned turn) holds follows = tt
+pub done_then : {P Q : Type 0} (taken : Result ℕ (Result Turned Reason)) → OnOk taken P → (P → Q)
+    → OnOk taken Q
+done_then (Ok end) holds follows = follows holds
+done_then (Err turn) holds follows = tt

@@ -9,15 +9,15 @@ use Rattle.ps_ops_control.specs.declared.frames.Frame.{Frame}
 use Rattle.ps_ops_control.specs.declared.frames.Frame.TheVariants.{Procedure}
 use Rattle.ps_ops_state.specs.Acts.{Asked}
 use Rattle.ps_ops_state.specs.Lent.{Lent, IsGood}
+use Rattle.ps_step_frames.specs.declared.elements.Element.{Element}
 use Rattle.ps_step_frames.specs.Steps.{above, frames_after, rest_frames, with_frames, IsElement}
+use Rattle.ps_step_execute.specs.declared.quick.Fast.{Fast}
+use Rattle.ps_step_execute.specs.declared.quick.Fast.TheVariants as fast
 use Rattle.ps_step_execute.specs.Values.{Asks}
 use Rattle.ps_step_outcome.specs.declared.turned.Turned.{Turned}
 use Rattle.ps_ops_operands.specs.declared.failure.NotMade.{NotMade as Reason}
 use Rattle.ps_step_interpreter.specs.Makes.{TurnsBehind}
 use Rattle.ps_step_interpreter.specs.OwnSteps.{HasRun}
-use Rattle.ps_step.specs.declared.elements.First.{First}
-use Rattle.ps_step.specs.declared.elements.First.TheVariants as first
-use Rattle.ps_step.specs.declared.elements.First.TheVariants.{All}
 use Rattle.ps_step.specs.declared.runs.Begin.{Begin}
 use Rattle.ps_step.specs.declared.runs.Begin.TheVariants.{Enters, Goes, Left}
 
@@ -46,24 +46,24 @@ DoesInto heap dictionaries rest count body old new =
     → HasRun (count + 1) (stacked heap dictionaries old (frames_after 0 rest below) l)
     (stacked heap dictionaries new (Procedure body ∷ frames_after (count + 1) rest below) l)
 
--- the one behind these is within those that may be done
-abbrev pub IsBehind : (most : ℕ) → First → Type 0
-IsBehind most All = Unit {0}
-IsBehind most (first.Enters done body) = done < most
-IsBehind most (first.Treats done element) = done < most
-IsBehind most (first.Left done) = done < most
+-- as many are done as may be, or the one behind them is within those
+abbrev pub IsBehind : (most done : ℕ) → Fast Element → Type 0
+IsBehind most done fast.Done = done ≡ most
+IsBehind most done (fast.Enters body) = done < most
+IsBehind most done (fast.Treats element) = done < most
+IsBehind most done fast.Slow = done < most
 
--- how far they came
-abbrev pub DoesFirst : Asks → Heap → (dictionaries : List Word) → Part → (most : ℕ) → First
+-- so many are done, and the one behind them came to that
+abbrev pub DoesFirst : Asks → Heap → (dictionaries : List Word) → Part → (done : ℕ) → Fast Element
     → (old new : List Word) → Type 0
-DoesFirst asks heap dictionaries rest most All old new =
-    DoesTo heap dictionaries rest most old new
-DoesFirst asks heap dictionaries rest most (first.Enters done body) old new =
+DoesFirst asks heap dictionaries rest done fast.Done old new =
+    DoesTo heap dictionaries rest done old new
+DoesFirst asks heap dictionaries rest done (fast.Enters body) old new =
     DoesInto heap dictionaries rest done body old new
-DoesFirst asks heap dictionaries rest most (first.Treats done element) old new =
+DoesFirst asks heap dictionaries rest done (fast.Treats element) old new =
     DoesTo heap dictionaries rest done old new
     × IsElement asks heap dictionaries rest done element
-DoesFirst asks heap dictionaries rest most (first.Left done) old new =
+DoesFirst asks heap dictionaries rest done fast.Slow old new =
     DoesTo heap dictionaries rest done old new
 
 -- so many steps were made, one at most, and the frame of the procedure that is above the frames has

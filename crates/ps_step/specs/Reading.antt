@@ -1,5 +1,5 @@
 -- The tokens of a text, one after another (PLRM2, 3.2, 3.5).
-use Rattle.std.specs.Prelude.{◌≡◌, ℕ, List, ◌∷◌, drop, length, Option, Some, None, Result, Ok}
+use Rattle.std.specs.Prelude.{◌≡◌, ℕ, List, ◌∷◌, drop, length, Option, Some, None, Result, Ok, Err}
 use Rattle.ps_language.specs.Token as language
 use Rattle.ps_language.specs.Token.{found}
 use Rattle.ps_language.specs.Value.{Store}
@@ -14,17 +14,16 @@ use Rattle.ps_ops_control.specs.declared.frames.Frame.TheVariants.{Text}
 use Rattle.ps_ops_control.specs.Frames.{IsSourceAt}
 use Rattle.ps_ops_state.specs.declared.lent.Attempt.{Attempt}
 use Rattle.ps_ops_state.specs.Lent.{Lent, IsGood, IsShown}
+use Rattle.ps_ops_operands.specs.declared.failure.NotMade.{NotMade as Reason}
+use Rattle.ps_step_outcome.specs.declared.turned.Turned.{Turned}
 use Rattle.ps_step_outcome.specs.declared.turned.Turned.TheVariants.{Goes}
 use Rattle.ps_step_outcome.specs.Turns.{Turns}
 use Rattle.ps_step_execute.specs.Quick.{TreatsAs}
 use Rattle.ps_step_execute.specs.Values.{Asks, among}
+use Rattle.ps_step_frames.specs.declared.elements.Element.{Element}
 use Rattle.ps_step_frames.specs.Steps.{running_turn, with_frames}
 use Rattle.ps_step_tokens.specs.Tokens.{token_asks, token_turn}
 use Rattle.ps_step_tokens.specs.Words.{IsDoneAs}
-use Rattle.ps_step.specs.declared.tokens.Read.{Read}
-use Rattle.ps_step.specs.declared.tokens.Read.TheVariants.{Done, Treats, Left}
-use Rattle.ps_step.specs.declared.texts.TokenTaken.{TokenTaken}
-use Rattle.ps_step.specs.declared.texts.TokenTaken.TheVariants.{Done as Further, Turned}
 use Rattle.ps_step.specs.Texts.{scan_at, text_asks, bytes_scanned, Scans, IsTaken}
 
 -- the text that is the topmost frame was read up to a place
@@ -42,22 +41,26 @@ DoesToken asks heap dictionaries names token old new =
     (record (among heap dictionaries l) { operands = old })
     (record (among heap dictionaries l) { operands = new })
 
+-- where a token that was done ends; or the element that it is, and where it ends, if that is known
+abbrev pub Read : Type 0
+Read = Result ℕ (Option (Element × ℕ))
+
 -- what was scanned came to that
 abbrev pub Reads : Asks → Heap → (dictionaries : List Word) → (names : List (List ℕ))
     → (text : List ℕ) → Read → Result (Option Token) Fault → (old new : List Word) → Type 0
-Reads asks heap dictionaries names text Left scanned old new = new ≡ old
-Reads asks heap dictionaries names text (Done end) (Ok (Some token)) old new =
+Reads asks heap dictionaries names text (Err None) scanned old new = new ≡ old
+Reads asks heap dictionaries names text (Ok end) (Ok (Some token)) old new =
     (end ≡ token.end)
     × DoesToken asks heap dictionaries names (token_of text token.kind) old new
-Reads asks heap dictionaries names text (Treats word value end) (Ok (Some token)) old new =
-    (new ≡ old) × (end ≡ token.end) × IsDoneAs names (token_of text token.kind) word
-    × IsValue heap value × TreatsAs asks heap dictionaries word value
+Reads asks heap dictionaries names text (Err (Some known)) (Ok (Some token)) old new =
+    (new ≡ old) × (known.1 ≡ token.end) × IsDoneAs names (token_of text token.kind) known.0.word
+    × IsValue heap known.0.value × TreatsAs asks heap dictionaries known.0.word known.0.value
 Reads asks heap dictionaries names text read scanned old new = ⊥
 
 -- where it was done, up to this place
 abbrev pub read_to_end : Option ℕ → Read
-read_to_end (Some end) = Done end
-read_to_end None = Left
+read_to_end (Some end) = Ok end
+read_to_end None = Err None
 
 -- behind a place of the text a token was read up to another, which is done as this word, and so as
 -- this value is treated
@@ -72,11 +75,12 @@ pub record IsRead (asks : Asks) (source : Source) (at : ℕ) (word value : Word)
 
 -- of the text that is the topmost frame and was read up to a place a token is done, by which it is
 -- read further, before the frame is; or the turn came to that
-abbrev pub Takes : Asks → Source → (at : ℕ) → Attempt → TokenTaken → (old new : Lent) → Type 0
-Takes asks source at attempt (Further end) old new = (new.frames ≡ old.frames)
+abbrev pub Takes : Asks → Source → (at : ℕ) → Attempt → Result ℕ (Result Turned Reason)
+    → (old new : Lent) → Type 0
+Takes asks source at attempt (Ok end) old new = (new.frames ≡ old.frames)
     × Turns (text_asks asks source at (drop 1 old.frames)) running_turn attempt (Ok Goes)
     (read_to source at old) (read_to source end new)
-Takes asks source at attempt (Turned result) old new =
+Takes asks source at attempt (Err result) old new =
     Turns (text_asks asks source at (drop 1 old.frames)) running_turn attempt result
     (read_to source at old) new
 
@@ -97,6 +101,6 @@ pub record ReadsToken (asks : Asks) (heap : Heap) (dictionaries : List Word)
 -- or nothing has changed
 abbrev pub ReadsWord : Asks → Heap → (dictionaries : List Word) → (names : List (List ℕ))
     → (program list : List ℕ) → Source → (at : ℕ) → Read → (old new : List Word) → Type 0
-ReadsWord asks heap dictionaries names program list source at Left old new = new ≡ old
+ReadsWord asks heap dictionaries names program list source at (Err None) old new = new ≡ old
 ReadsWord asks heap dictionaries names program list source at read old new =
     ReadsToken asks heap dictionaries names program list source at read old new

@@ -11,8 +11,6 @@ use Rattle.ps_scan.specs.declared.tokens.Token.{Token}
 use Rattle.ps_scan.specs.Shown.{token_of}
 use Rattle.ps_ops_control.specs.declared.frames.Source.{Source}
 use Rattle.ps_ops_control.specs.declared.frames.Source.TheVariants.{Program, Text}
-use Rattle.ps_step.specs.declared.texts.TokenTaken.{TokenTaken}
-use Rattle.ps_step.specs.declared.texts.TokenTaken.TheVariants.{Done, Turned}
 use Rattle.ps_step.specs.declared.windows.Window.{Window}
 
 -- in every store that the memory shows the list is so many bytes of a string, from a place on
@@ -35,8 +33,3 @@ StandsBehind part at start list token =
     → list ≡ slice_range all start (start + length list)
     → scan (slice_range all part.offset (part.offset + part.length)) at
     ≡ found (token_of list token.kind) token.end
-
--- of what was done by operands alone
-abbrev pub OnDone : TokenTaken → Type 0 → Type 0
-OnDone (Done end) holds = holds
-OnDone (Turned turn) holds = ⊤

@@ -2,19 +2,21 @@
 //! that they enter, and those of the procedure below where one ends (PLRM2, 3.5).
 
 ghost use Rattle.std.specs.Prelude.{◌≡◌, ◌∷◌, ◌+◌, ◌<◌, ◌≤◌, ◌^◌, IsSome, IsNone, length, min};
+ghost use Rattle.ps_language.specs.Limits.{frame_limit};
 ghost use Rattle.ps_ops_state.specs.Lent.{lent_of, IsGood};
 ghost use Rattle.ps_step_interpreter.specs.Makes.{Runs};
 ghost use Rattle.ps_step_frames.specs.Steps.{above, part_behind, IsElement};
 ghost use Rattle.ps_step.specs.Elements.{ComesBy};
 ghost use Rattle.ps_step.specs.Steps.{own_asks};
 
-use crate::elements::{First, do_first};
+use crate::elements::do_first;
 use ps_mem::{Memory, Slot};
 use ps_ops_control::frames::{Frame, Frames, push_frame};
 use ps_ops_operands::failure::NotMade;
 use ps_ops_state::lent::{Attempt, Context, Runtime};
 use ps_stacks::FRAME_LIMIT;
 use ps_step_execute::operates::Operate;
+use ps_step_execute::quick::Fast;
 use ps_step_execute::under::Under;
 use ps_step_frames::elements::{Element, element_under, pushed_turn};
 use ps_step_frames::frames::{drop_top, push_rest, top_procedure};
@@ -61,7 +63,7 @@ fn do_known<O: Operate, M: Memory>(
 ) -> Option<Result<Turned, NotMade>>
     requires good { IsGood (above rest
         (lent_of M.heap M.grants context.old runtime.old)) }
-    requires room { length context.old.frames < 250 }
+    requires room { length context.old.frames < frame_limit }
     requires first { IsElement O.asks (M.heap runtime.old.memory) context.old.dictionaries rest 0
         first }
     ensures { ComesBy (own_asks O.asks) slot result rest
@@ -85,7 +87,7 @@ fn do_known<O: Operate, M: Memory>(
 /// stays in memory, and leaves its registers to the elements.
 #[inline(never)]
 fn push_left(frames: &mut Frames, rest: &Part)
-    requires room { length frames.old < 250 }
+    requires room { length frames.old < frame_limit }
     ensures { frames.new ≡ Frame.Procedure rest.now ∷ frames.old }
 {
     push_frame(frames, Frame::Procedure { rest: *rest });
@@ -96,8 +98,8 @@ fn push_left(frames: &mut Frames, rest: &Part)
 #[inline(always)]
 fn may_do(frames: &Frames, budget: u32, count: u16) -> u16
     ensures within { result ≤ min budget count }
-    ensures room { 1 ≤ result → 2 + length frames.now ≤ 250 }
-    ensures all { 2 + length frames.now ≤ 250 → result ≡ min budget count }
+    ensures room { 1 ≤ result → 2 + length frames.now ≤ frame_limit }
+    ensures all { 2 + length frames.now ≤ frame_limit → result ≡ min budget count }
 {
     if frames.len() >= FRAME_LIMIT - 1 {
         0
@@ -121,7 +123,7 @@ pub fn run_entered<O: Operate, M: Memory>(
 ) -> Run
     requires good { IsGood (above entered
         (lent_of M.heap M.grants context.old runtime.old)) }
-    requires room { 2 + length context.old.frames ≤ 250 }
+    requires room { 2 + length context.old.frames ≤ frame_limit }
     ensures within { result.made ≤ most }
     ensures fewer { IsSome result.next → result.made < most }
     ensures more { IsNone result.next → 1 ≤ most → 1 ≤ result.made }
@@ -135,8 +137,9 @@ pub fn run_entered<O: Operate, M: Memory>(
     while end > 0 {
         let dictionaries = &context.dictionaries;
         let operands = &mut context.operands;
-        match do_first::<O, M>(rest, end, dictionaries, operands, &mut runtime.memory) {
-            First::All => {
+        let (done, came) = do_first::<O, M>(rest, end, dictionaries, operands, &mut runtime.memory);
+        match came {
+            Fast::Done => {
                 left -= end as u32;
                 rest = left_of(rest, end);
                 end = 0;
@@ -148,13 +151,13 @@ pub fn run_entered<O: Operate, M: Memory>(
                     }
                 }
             }
-            First::Enters { done, body } => {
+            Fast::Enters(body) => {
                 push_rest(&mut context.frames, left_of(rest, done));
                 left -= done as u32 + 1;
                 rest = body;
                 end = may_do(&context.frames, left, rest.length);
             }
-            First::Treats { done, element } => {
+            Fast::Treats(element) => {
                 let behind = left_of(rest, done);
                 let known = do_known::<O, M>(behind, element, context, runtime, slot);
                 if known.is_some() {
@@ -167,7 +170,7 @@ pub fn run_entered<O: Operate, M: Memory>(
                 rest = left_of(behind, 1);
                 end -= done + 1;
             }
-            First::Left { done } => {
+            Fast::Slow => {
                 let attempt = Attempt {
                     slot,
                     refused: false,

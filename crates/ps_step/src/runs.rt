@@ -14,7 +14,7 @@ ghost use Rattle.ps_step.specs.Steps.{own_asks};
 
 use crate::procedures::run_entered;
 use crate::sources::{Cursor, read_source};
-use crate::texts::{TokenTaken, read_token, text_turn};
+use crate::texts::{read_token, text_turn};
 use crate::windows::Window;
 use ps_mem::{Memory, Slot};
 use ps_ops_control::ahead::Ahead;
@@ -137,11 +137,11 @@ fn run_text<O: Operate, M: Memory>(
                 refused: false,
             },
         ) {
-            TokenTaken::Done(end) => {
+            Ok(end) => {
                 place.at = end;
                 made += 1;
             }
-            TokenTaken::Turned(turn) => return with_turn(made, turn, most, &mut context.frames),
+            Err(turn) => return with_turn(made, turn, most, &mut context.frames),
         }
     }
     let Cursor { source, at } = place;
@@ -193,7 +193,7 @@ pub fn run_turns<O: Operate, M: Memory>(
     }
 }
 
-/// How steps of the topmost frame begin.
+/// What the begin of steps of the topmost frame came to.
 #[derive(Clone, Copy, Debug, PartialEq, Eq)]
 pub enum Begin {
     /// With so many steps, behind which a procedure is above the frames.

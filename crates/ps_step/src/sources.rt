@@ -10,7 +10,6 @@ use crate::windows::{Window, read_window, scan_read, scan_string, word_read};
 use ps_mem::Memory;
 use ps_ops_control::frames::Source;
 use ps_scan::{ScanFault, Token, next_token, next_word};
-use ps_step_tokens::laws::scanned_is_short;
 use std::alloc::Global;
 
 /// Where a text is read: behind so many of its bytes.
@@ -76,10 +75,7 @@ pub(crate) fn scan_source<M: Memory>(
     ensures window { IsWindow (M.heap memory.old) cursor.source window.new }
 {
     match cursor.source {
-        Source::Program => {
-            scanned_is_short();
-            next_token(alloc, program, cursor.at)
-        }
+        Source::Program => next_token(alloc, program, cursor.at),
         Source::Text(part) => match scan_read(part, cursor.at, window, alloc) {
             Some(token) => Ok(Some(token)),
             None => scan_string(memory, part, cursor.at, window, alloc),
@@ -106,7 +102,6 @@ pub(crate) fn scan_word<M: Memory>(
         IsTaken (IsSourceAt (M.heap memory.now) (length program.now) cursor.source)
         (bytes_scanned cursor.source program.now window.now.bytes.items) (Ok (Some token))) }
 {
-    scanned_is_short();
     match cursor.source {
         Source::Program => next_word(program, cursor.at),
         Source::Text(part) => word_read(part, cursor.at, window),

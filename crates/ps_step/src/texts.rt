@@ -1,6 +1,6 @@
 //! A step by a text: its next token is taken and done (PLRM2, 3.2, 3.5).
 
-ghost use Rattle.std.specs.Prelude.{◌≡◌, ℕ, ◌<◌, ◌≤◌, ◌+◌, ◌-◌, ◌^◌, ⊤, drop, length, Some};
+ghost use Rattle.std.specs.Prelude.{◌≡◌, ℕ, ◌<◌, ◌≤◌, ◌+◌, ◌-◌, ◌^◌, ⊤, drop, length, Some, OnOk};
 ghost use Rattle.ps_language.specs.Token.{found};
 ghost use Rattle.ps_ops_state.specs.Lent.{lent_of, IsGood, IsShown};
 ghost use Rattle.ps_ops_control.specs.Frames.{IsSourceAt, source_of};
@@ -14,10 +14,10 @@ ghost use Rattle.ps_step_frames.specs.Steps.{running_turn};
 ghost use Rattle.ps_step.specs.Reading.{read_to, IsRead, Takes};
 ghost use Rattle.ps_step.specs.Texts.{IsFaulty, IsScanned, Starves, IsTaken, scan_at};
 ghost use Rattle.ps_step.specs.Texts.{scanned_asks, text_asks};
-ghost use Rattle.ps_step.specs.Windows.{IsWindow, OnDone};
+ghost use Rattle.ps_step.specs.Windows.{IsWindow};
 
 use crate::sources::{Cursor, scan_source, scanned_bytes};
-use crate::tokens::{Read, literal_ahead, word_ahead};
+use crate::tokens::{literal_ahead, word_ahead};
 use crate::windows::Window;
 use ps_language::errors::ErrorName;
 use ps_mem::Memory;
@@ -177,15 +177,6 @@ fn scanned_turn<O: Operate, M: Memory>(
     }
 }
 
-/// What the next token of a text came to.
-#[derive(Clone, Copy, Debug)]
-pub enum TokenTaken {
-    /// It was done by operands alone, and ends at this place.
-    Done(usize),
-    /// The turn came to this.
-    Turned(Result<Turned, NotMade>),
-}
-
 /// A token is done as its value is treated, and the frame of the text goes on behind it. Raises
 /// what the value raises, with the token's word as the command.
 ///
@@ -231,7 +222,8 @@ fn treat_token<O: Operate, M: Memory>(
 }
 
 /// What was scanned of a text behind a place is taken: a literal is pushed, and the memory stays as
-/// it is; or the frame goes on from that place and the turn is made.
+/// it is; or the frame goes on from that place and the turn is made. It tells where a token ends that
+/// was done by operands alone; else what the turn came to is the error.
 #[inline(always)]
 fn take_scanned<O: Operate, M: Memory>(
     cursor: &Cursor,
@@ -240,7 +232,7 @@ fn take_scanned<O: Operate, M: Memory>(
     context: &mut Context,
     runtime: &mut Runtime<M>,
     attempt: Attempt,
-) -> TokenTaken
+) -> Result<usize, Result<Turned, NotMade>>
     requires framed { 1 ≤ length context.old.frames }
     requires good { IsGood (read_to cursor.now.source cursor.now.at
         (lent_of M.heap M.grants context.old runtime.old)) }
@@ -260,25 +252,23 @@ fn take_scanned<O: Operate, M: Memory>(
     ensures takes { Takes O.asks cursor.now.source cursor.now.at attempt result
         (lent_of M.heap M.grants context.old runtime.old)
         (lent_of M.heap M.grants context.new runtime.new) }
-    ensures heap { OnDone result (M.heap runtime.new.memory ≡ M.heap runtime.old.memory) }
+    ensures heap { OnOk result (M.heap runtime.new.memory ≡ M.heap runtime.old.memory) }
 {
     match literal_ahead(&scanned, text, &runtime.shared.names, &mut context.operands) {
-        Some(end) => TokenTaken::Done(end),
+        Some(end) => Ok(end),
         None => {
             let top = Frame::Text {
                 source: cursor.source,
                 at: cursor.at,
             };
             replace_top(&mut context.frames, top);
-            TokenTaken::Turned(scanned_turn::<O, M>(
-                cursor, scanned, text, context, runtime, attempt,
-            ))
+            Err(scanned_turn::<O, M>(cursor, scanned, text, context, runtime, attempt))
         }
     }
 }
 
 /// The next token of a text behind a place is taken. Where the window doesn't have it, a string is
-/// read into it as it stands now, as far as the token takes.
+/// read into it as it stands now, as far as the token takes. It tells what `take_scanned` does.
 #[inline(always)]
 fn take_next<O: Operate, M: Memory>(
     cursor: &Cursor,
@@ -286,7 +276,7 @@ fn take_next<O: Operate, M: Memory>(
     context: &mut Context,
     runtime: &mut Runtime<M>,
     attempt: Attempt,
-) -> TokenTaken
+) -> Result<usize, Result<Turned, NotMade>>
     requires framed { 1 ≤ length context.old.frames }
     requires good { IsGood (read_to cursor.now.source cursor.now.at
         (lent_of M.heap M.grants context.old runtime.old)) }
@@ -294,7 +284,7 @@ fn take_next<O: Operate, M: Memory>(
     ensures takes { Takes O.asks cursor.now.source cursor.now.at attempt result
         (lent_of M.heap M.grants context.old runtime.old)
         (lent_of M.heap M.grants context.new runtime.new) }
-    ensures window { OnDone result
+    ensures window { OnOk result
         (IsWindow (M.heap runtime.new.memory) cursor.now.source window.new) }
 {
     let alloc = *runtime.shared.scratch.text.allocator();
@@ -305,7 +295,8 @@ fn take_next<O: Operate, M: Memory>(
 }
 
 /// The next token of a text behind a place is taken, as `take_next` does, but a number or an
-/// executable name is scanned in line.
+/// executable name is scanned in line. It tells where a token ends that was done by operands alone;
+/// else what the turn came to is the error.
 #[inline(always)]
 pub fn read_token<O: Operate, M: Memory>(
     cursor: &Cursor,
@@ -313,7 +304,7 @@ pub fn read_token<O: Operate, M: Memory>(
     context: &mut Context,
     runtime: &mut Runtime<M>,
     attempt: Attempt,
-) -> TokenTaken
+) -> Result<usize, Result<Turned, NotMade>>
     requires framed { 1 ≤ length context.old.frames }
     requires good { IsGood (read_to cursor.now.source cursor.now.at
         (lent_of M.heap M.grants context.old runtime.old)) }
@@ -321,7 +312,7 @@ pub fn read_token<O: Operate, M: Memory>(
     ensures takes { Takes O.asks cursor.now.source cursor.now.at attempt result
         (lent_of M.heap M.grants context.old runtime.old)
         (lent_of M.heap M.grants context.new runtime.new) }
-    ensures window { OnDone result
+    ensures window { OnOk result
         (IsWindow (M.heap runtime.new.memory) cursor.now.source window.new) }
 {
     let dictionaries = &context.dictionaries;
@@ -329,13 +320,11 @@ pub fn read_token<O: Operate, M: Memory>(
     let shared = &runtime.shared;
     let memory = &mut runtime.memory;
     match word_ahead::<O, M>(*cursor, window, dictionaries, shared, operands, memory) {
-        Read::Done(end) => TokenTaken::Done(end),
-        Read::Treats { word, value, end } => {
-            let element = Element { word, value };
-            let turn = treat_token::<O, M>(cursor, element, end, context, runtime, attempt);
-            TokenTaken::Turned(turn)
-        }
-        Read::Left => take_next::<O, M>(cursor, window, context, runtime, attempt),
+        Ok(end) => Ok(end),
+        Err(Some((element, end))) => Err(treat_token::<O, M>(
+            cursor, element, end, context, runtime, attempt,
+        )),
+        Err(None) => take_next::<O, M>(cursor, window, context, runtime, attempt),
     }
 }
 

@@ -2,6 +2,7 @@
 
 ghost use Rattle.std.specs.Prelude.{◌≡◌, Some, Ok, ⊤, IsNone, List, length};
 ghost use Rattle.ps_mem.specs.Heap.{Heap};
+ghost use Rattle.ps_word.specs.declared.words.Word.{Word};
 ghost use Rattle.ps_step_execute.specs.Values.{Asks};
 ghost use Rattle.ps_mem.specs.Shows.{AreValues, IsSound};
 ghost use Rattle.ps_ops_control.specs.Frames.{IsSourceAt};
@@ -20,25 +21,13 @@ use ps_ops_state::lent::{Dictionaries, Shared};
 use ps_scan::{ScanFault, Token};
 use ps_step_execute::operates::Operate;
 use ps_step_execute::pushes::push_quickly;
-use ps_step_execute::quick::{Quick, do_quickly};
+use ps_step_execute::quick::{Fast, do_quickly};
+use ps_step_frames::elements::Element;
 use ps_step_tokens::words::word_of;
-use ps_word::words::Word;
 
-/// What a token that was scanned came to by operands alone.
-#[derive(Clone, Copy, Debug, PartialEq, Eq)]
-pub enum Read {
-    /// It is done, and ends at this place.
-    Done(usize),
-    /// Nothing has changed. It is done as its word, which is treated as this value, and ends at
-    /// this place.
-    Treats { word: Word, value: Word, end: usize },
-    /// Nothing has changed, and no more is known.
-    Left,
-}
-
-/// Does a token by operands alone, where that raises no error and forms no name. Else it tells as
-/// which value the token is treated, where its name was met and looked up. The memory stays as it
-/// is.
+/// Does a token by operands alone, where that raises no error and forms no name, and tells where it
+/// ends. Else nothing has changed, and the error is its word with the value as which that is treated,
+/// and where it ends, where its name was met and looked up. The memory stays as it is.
 #[inline(always)]
 fn do_ahead<O: Operate, M: Memory>(
     token: &Token,
@@ -47,7 +36,7 @@ fn do_ahead<O: Operate, M: Memory>(
     names: &Names,
     operands: &mut Operands,
     memory: &mut M,
-) -> Read
+) -> Result<usize, Option<(Element, usize)>>
     requires sound { IsSound (M.heap memory.old) }
     requires dictionaries { AreValues (M.heap memory.old) dictionaries.now }
     requires short { IsShort (token_of text.now token.now.kind) }
@@ -57,14 +46,14 @@ fn do_ahead<O: Operate, M: Memory>(
         (Ok (Some token.now)) operands.old operands.new }
 {
     let Some(word) = word_of(&token.kind, text, names) else {
-        return Read::Left;
+        return Err(None);
     };
     let end = token.end;
     match do_quickly::<O, M>(word, dictionaries, operands, memory, false) {
-        Quick::Done => Read::Done(end),
-        Quick::Enters(_) => unreachable!(),
-        Quick::Treats(value) => Read::Treats { word, value, end },
-        Quick::Left => Read::Left,
+        Fast::Done => Ok(end),
+        Fast::Enters(_) => unreachable!(),
+        Fast::Treats(value) => Err(Some((Element { word, value }, end))),
+        Fast::Slow => Err(None),
     }
 }
 
@@ -99,8 +88,9 @@ pub fn literal_ahead(
 }
 
 /// Does the next token of the program, or of what was read of a string, where it is a number or an
-/// executable name, by operands alone, where that raises no error and forms no name. Else it tells
-/// as which value it is treated, where its name was met and looked up. The memory stays as it is.
+/// executable name, by operands alone, where that raises no error and forms no name, and tells where
+/// it ends. Else nothing has changed, and the error is its word with the value as which that is
+/// treated, and where it ends, where its name was met and looked up. The memory stays as it is.
 #[inline(always)]
 pub fn word_ahead<O: Operate, M: Memory>(
     cursor: Cursor,
@@ -109,7 +99,7 @@ pub fn word_ahead<O: Operate, M: Memory>(
     shared: &Shared,
     operands: &mut Operands,
     memory: &mut M,
-) -> Read
+) -> Result<usize, Option<(Element, usize)>>
     requires sound { IsSound (M.heap memory.old) }
     requires dictionaries { AreValues (M.heap memory.old) dictionaries.now }
     requires place { IsSourceAt (M.heap memory.old) (length shared.now.program.now) cursor.source
@@ -122,7 +112,7 @@ pub fn word_ahead<O: Operate, M: Memory>(
         operands.new }
 {
     let Some(token) = scan_word(cursor, shared.program, window, memory) else {
-        return Read::Left;
+        return Err(None);
     };
     let text = scanned_bytes(cursor.source, shared.program, window);
     do_ahead::<O, M>(&token, text, dictionaries, &shared.names, operands, memory)

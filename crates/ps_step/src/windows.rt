@@ -19,7 +19,6 @@ use ps_language::kinds::Kind;
 use ps_mem::Memory;
 use ps_scan::{ScanFault, Token, next_token, next_word};
 use ps_seq::strings::append_bytes;
-use ps_step_tokens::laws::scanned_is_short;
 use ps_word::values::Part;
 use std::alloc::{AllocError, Global};
 
@@ -85,7 +84,6 @@ fn scan_part<M: Memory>(
     ensures read { AreRead (M.heap memory.old) part.address part.offset list.new.items }
     ensures fits { length list.new.items ≤ part.length }
 {
-    scanned_is_short();
     match read_part(memory, part, list) {
         Ok(()) => next_token(alloc, list.as_slice(), at),
         Err(AllocError) => Err(ScanFault::Memory),
@@ -197,7 +195,6 @@ pub fn scan_read(part: Part, at: usize, window: &Window, alloc: Global) -> Optio
     ensures token { IfSome result (λ token. (token.end ≤ part.length)
         × IsShort (token_of window.now.bytes.items token.kind)) }
 {
-    scanned_is_short();
     let list = window.bytes.as_slice();
     let front = place_read(part, at, window.start, list)?;
     match next_token(alloc, list, front) {
@@ -217,7 +214,6 @@ pub fn word_read(part: Part, at: usize, window: &Window) -> Option<Token>
     ensures token { IfSome result (λ token. (token.end ≤ part.length)
         × IsShort (token_of window.now.bytes.items token.kind)) }
 {
-    scanned_is_short();
     let list = window.bytes.as_slice();
     let front = place_read(part, at, window.start, list)?;
     match next_word(list, front) {

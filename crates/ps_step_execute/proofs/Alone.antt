@@ -27,8 +27,8 @@ use Rattle.ps_step_outcome.proofs.Composing.{turns_over, turns_shown}
 use Rattle.ps_step_lookup.specs.Lookups.{IsSought, found_of}
 use Rattle.ps_step_outcome.specs.declared.turned.Turned.{Turned}
 use Rattle.ps_ops_operands.specs.declared.failure.NotMade.{NotMade as Reason}
-use Rattle.ps_step_execute.specs.declared.quick.Quick.{Quick}
-use Rattle.ps_step_execute.specs.declared.quick.Quick.TheVariants.{Enters, Treats, Left}
+use Rattle.ps_step_execute.specs.declared.quick.Fast.{Fast}
+use Rattle.ps_step_execute.specs.declared.quick.Fast.TheVariants.{Enters, Treats, Slow}
 use Rattle.ps_step_execute.specs.Quick.{IsTreated, TreatsAs, ComesTo, came_or}
 use Rattle.ps_step_execute.specs.Values.{meaning, EntersIn, EntersAlone, GoesAlone, among, pushed_turn, operated_turn}
 use Rattle.ps_step_execute.specs.Values.{treated_turn, done_turn, Asks, operated_asks, treated_asks, executed_asks}
@@ -178,20 +178,20 @@ module _ (asks : Asks) (heap : Heap) (dictionaries : List Word) (word : Word) wh
         turns
 
   module _ (old new : List Word) where
-    abbrev Comes : Quick → Type 0
+    abbrev Comes : Fast Word → Type 0
     Comes came = ComesTo asks heap dictionaries word came old new
 
     abbrev Done_by : Ahead → Type 0
     Done_by came = EntersIn (among heap dictionaries) (word ∷ word ∷ []) (executed_asks asks word)
         (done_turn word word) came old new
 
-    comes_by : (came : Ahead) (otherwise : Quick) → Done_by came → (new ≡ old → Comes otherwise)
+    comes_by : (came : Ahead) (otherwise : Fast Word) → Done_by came → (new ≡ old → Comes otherwise)
         → Comes (came_or came otherwise)
     comes_by ahead.Goes otherwise done kept = done
     comes_by (ahead.Enters body) otherwise done kept = done
     comes_by ahead.Left otherwise done kept = kept done.0
 
-    pub treated_comes : (goes : Ahead) (value : Word) (came : Quick)
+    pub treated_comes : (goes : Ahead) (value : Word) (came : Fast Word)
         → came ≡ came_or goes (Treats value) → IsValue heap value
         → TreatsAs asks heap dictionaries word value
         → EntersAlone (value ∷ word ∷ []) (treated_asks asks value) (treated_turn word value) goes
@@ -219,14 +219,14 @@ module _ (asks : Asks) (heap : Heap) (dictionaries : List Word) (word : Word) wh
         )
         by ahead.Left alone = (alone.0, tt)
 
-    pub procedure_comes : (done : Bool) (goes : Ahead) (came : Quick) → goes ≡ done_ahead done
-        → came ≡ came_or goes Left
+    pub procedure_comes : (done : Bool) (goes : Ahead) (came : Fast Word) → goes ≡ done_ahead done
+        → came ≡ came_or goes Slow
         → ((births : ℕ → ℕ) (names : List (List ℕ))
         → is_procedure (value_of births names word) ≡ true)
         → GoesAlone (word ∷ word ∷ []) nothing_more (pushed_turn word word) done old new
         → Comes came
     procedure_comes done goes came same is made pushed =
-        subst Comes (sym is) (comes_by goes Left
+        subst Comes (sym is) (comes_by goes Slow
         (subst Done_by (sym same) (by done pushed)) (λ same. same))
       where
         by : (done : Bool)
@@ -241,7 +241,7 @@ module _ (asks : Asks) (heap : Heap) (dictionaries : List Word) (word : Word) wh
         by false pushed = (pushed.0, tt)
 
 -- of what is told of an element: a procedure is entered only where it was ahead
-pub entered_by : (goes : Ahead) (otherwise came : Quick) → came ≡ came_or goes otherwise
+pub entered_by : (goes : Ahead) (otherwise came : Fast Word) → came ≡ came_or goes otherwise
     → ((body : Part) → otherwise ≡ Enters body → ⊥) → (may : Type 0)
     → ((body : Part) → goes ≡ ahead.Enters body → may) → (body : Part) → came ≡ Enters body → may
 entered_by goes otherwise came is other may entered body enters = by goes is entered

@@ -8,8 +8,8 @@ use Rattle.ps_ops_control.specs.declared.ahead.Ahead.{Ahead}
 use Rattle.ps_ops_control.specs.declared.ahead.Ahead.TheVariants as ahead
 use Rattle.ps_ops_state.specs.Lent.{Lent, IsGood}
 use Rattle.ps_step_outcome.specs.Turns.{IsShownWith}
-use Rattle.ps_step_execute.specs.declared.quick.Quick.{Quick}
-use Rattle.ps_step_execute.specs.declared.quick.Quick.TheVariants.{Done, Enters, Treats, Left}
+use Rattle.ps_step_execute.specs.declared.quick.Fast.{Fast}
+use Rattle.ps_step_execute.specs.declared.quick.Fast.TheVariants.{Done, Enters, Treats, Slow}
 use Rattle.ps_step_execute.specs.Values.{Asks, done_turn, executed_asks, treated_turn, treated_asks}
 use Rattle.ps_step_execute.specs.Values.{among, EntersIn}
 
@@ -27,13 +27,13 @@ TreatsAs asks heap dictionaries word value =
     → IsTreated asks word value (among heap dictionaries l) s
 
 -- done, or up to the frame of the procedure that is entered, or this
-abbrev pub came_or : Ahead → Quick → Quick
+abbrev pub came_or : Ahead → Fast Word → Fast Word
 came_or ahead.Goes otherwise = Done
 came_or (ahead.Enters body) otherwise = Enters body
 came_or ahead.Left otherwise = otherwise
 
 -- the element is done, up to the frame of the procedure that it enters; or nothing has changed
-abbrev pub ComesTo : Asks → Heap → (dictionaries : List Word) → Word → Quick
+abbrev pub ComesTo : Asks → Heap → (dictionaries : List Word) → Word → Fast Word
     → (old new : List Word) → Type 0
 ComesTo asks heap dictionaries word Done old new =
     EntersIn (among heap dictionaries) (word ∷ word ∷ []) (executed_asks asks word)
@@ -43,4 +43,4 @@ ComesTo asks heap dictionaries word (Enters body) old new =
     (done_turn word word) (ahead.Enters body) old new
 ComesTo asks heap dictionaries word (Treats value) old new =
     (new ≡ old) × (IsValue heap value × TreatsAs asks heap dictionaries word value)
-ComesTo asks heap dictionaries word Left old new = new ≡ old
+ComesTo asks heap dictionaries word Slow old new = new ≡ old

@@ -9,7 +9,7 @@
 //! - `do_quickly` must not grow past the size at which the kit drops `inline(always)`. What the
 //!   compiler inlines by itself says `inline` alone.
 //! - Where an element isn't done ahead, nothing has changed, and the value as which it is treated
-//!   is told (`Quick`). So no name that is found is looked up twice.
+//!   is told (`Fast`). So no name that is found is looked up twice.
 //! - No clause says how many elements go ahead. A body that leaves them all is right, and slow.
 #![tactic(auto)]
 

@@ -17,30 +17,28 @@ use ps_step_lookup::lookups::look_up;
 use ps_word::values::{Content, Part};
 use ps_word::words::Word;
 
-/// What an element came to by operands and frames alone.
+/// What the fast path came to, by operands and frames alone.
 #[derive(Clone, Copy, Debug, PartialEq, Eq)]
-pub enum Quick {
-    /// It is done.
+pub enum Fast<T> {
+    /// All of it is done.
     Done,
     /// It is done, and this procedure is entered, which isn't empty. Its frame isn't pushed.
     Enters(Part),
-    /// Nothing has changed, and it is done as this value is treated.
-    Treats(Word),
-    /// Nothing has changed, and no more is known.
-    Left,
+    /// Nothing has changed, and what is to be treated is known.
+    Treats(T),
+    /// Nothing has changed, and no more is known: it is left to the slow path.
+    Slow,
 }
 
-impl Quick {
-    /// What it came to ahead, or this.
-    #[inline]
-    fn or(came: Ahead, left: Quick) -> Quick
-        ensures { result ≡ came_or came left }
-    {
-        match came {
-            Ahead::Goes => Quick::Done,
-            Ahead::Enters(body) => Quick::Enters(body),
-            Ahead::Left => left,
-        }
+/// What an element came to ahead, or this.
+#[inline]
+fn came_or(came: Ahead, left: Fast<Word>) -> Fast<Word>
+    ensures { result ≡ came_or came left }
+{
+    match came {
+        Ahead::Goes => Fast::Done,
+        Ahead::Enters(body) => Fast::Enters(body),
+        Ahead::Left => left,
     }
 }
 
@@ -55,7 +53,7 @@ pub fn do_quickly<O: Operate, M: Memory>(
     operands: &mut Operands,
     memory: &mut M,
     may_enter: bool,
-) -> Quick
+) -> Fast<Word>
     requires sound { IsSound (M.heap memory.old) }
     requires dictionaries { AreValues (M.heap memory.old) dictionaries.now }
     requires word { IsValue (M.heap memory.old) word }
@@ -63,29 +61,29 @@ pub fn do_quickly<O: Operate, M: Memory>(
     ensures grants { M.grants memory.new ≡ M.grants memory.old }
     ensures comes { ComesTo O.asks (M.heap memory.old) dictionaries.now word result operands.old
         operands.new }
-    ensures enters { (body : ThePart) → result ≡ Quick.Enters body → IsTrue may_enter }
+    ensures enters { (body : ThePart) → result ≡ Fast.Enters body → IsTrue may_enter }
 {
     if !word.is_executable() {
         let came = Ahead::of(push_quickly(word, operands));
-        return Quick::or(came, Quick::Treats(word));
+        return came_or(came, Fast::Treats(word));
     }
     if let Some(operator) = word.executable_operator() {
         let came = O::operate_ahead(operator, operands, may_enter);
-        return Quick::or(came, Quick::Treats(word));
+        return came_or(came, Fast::Treats(word));
     }
     // Asked for before a name: what a look-up keeps would else be kept beside a procedure.
     if let Content::Array(_) = word.content() {
         let came = Ahead::of(push_quickly(word, operands));
-        return Quick::or(came, Quick::Left);
+        return came_or(came, Fast::Slow);
     }
     match word.content() {
         Content::Name(_) => {
             let Ok(Some(found)) = look_up(memory, dictionaries, Some(word)) else {
-                return Quick::Left;
+                return Fast::Slow;
             };
             let came = treat_ahead::<O>(found.1, operands, may_enter);
-            Quick::or(came, Quick::Treats(found.1))
+            came_or(came, Fast::Treats(found.1))
         }
-        _ => Quick::Treats(word),
+        _ => Fast::Treats(word),
     }
 }

@@ -1,6 +1,7 @@
 //! A step of `bind` (PLRM2, 3.11, 8 'bind').
 
 ghost use Rattle.std.specs.Prelude.{◌≡◌, ℕ, ◌+◌, ◌<◌, ◌≤◌, List, Some, true, length, drop, IfErr, IsSome, IsTrue, OnErr, OnOk, if◌then◌else◌};
+ghost use Rattle.ps_language.specs.Limits.{frame_limit};
 ghost use Rattle.ps_language.specs.Access.{with_part_elements};
 ghost use Rattle.ps_language.specs.Value.{Store};
 ghost use Rattle.ps_mem.specs.Heap.{birth_at};
@@ -100,7 +101,7 @@ fn store_bound<M: Memory>(
 /// procedure that is gone into.
 fn go_on(frames: &mut Frames, over: Part, at: u32, depth: u32, inner: Option<Part>)
     requires some { 1 ≤ length frames.old }
-    requires room { IsSome inner → length frames.old < 250 }
+    requires room { IsSome inner → length frames.old < frame_limit }
     requires depth { depth ≤ 32 }
     ensures { frames.new ≡ binds.bind_frames over at depth inner (drop 1 frames.old) }
 {

@@ -1,6 +1,7 @@
 //! Steps by the elements of a procedure, and by a value that waits (PLRM2, 3.5).
 
 ghost use Rattle.std.specs.Prelude.{◌≡◌, ◌<◌, ◌∷◌, [], Some, IfSome, length};
+ghost use Rattle.ps_language.specs.Limits.{frame_limit};
 ghost use Rattle.ps_ops_state.specs.Lent.{lent_of, IsGood};
 ghost use Rattle.ps_stacks.specs.Tops.{first_of};
 ghost use Rattle.ps_mem.specs.Shows.{IsValue};
@@ -92,7 +93,7 @@ fn element_turn<O: Operate, M: Memory>(
 ) -> Result<Turned, NotMade>
     requires good { IsGood (above rest
         (lent_of M.heap M.grants context.old runtime.old)) }
-    requires room { length context.old.frames < 250 }
+    requires room { length context.old.frames < frame_limit }
     requires element { IsElement O.asks (M.heap runtime.old.memory) context.old.dictionaries rest 0
         element }
     ensures { Turns (frame_asks O.asks) running_turn attempt result
@@ -150,7 +151,7 @@ pub fn pushed_turn<O: Operate, M: Memory>(
 ) -> Result<Turned, NotMade>
     requires good { IsGood (above rest
         (lent_of M.heap M.grants context.old runtime.old)) }
-    requires room { length context.old.frames < 250 }
+    requires room { length context.old.frames < frame_limit }
     requires first { IfSome first
         (IsElement O.asks (M.heap runtime.old.memory) context.old.dictionaries rest 0) }
     ensures { Turns (frame_asks O.asks) running_turn attempt result

@@ -1,6 +1,7 @@
 //! The topmost frame goes, goes on, or is put back (PLRM2, 3.4).
 
 ghost use Rattle.std.specs.Prelude.{◌≡◌, ◌∷◌, ◌+◌, ◌-◌, ◌<◌, ◌≤◌, ◌^◌, List, Some, drop, length};
+ghost use Rattle.ps_language.specs.Limits.{frame_limit};
 ghost use Rattle.ps_ops_control.specs.declared.frames.Frame.{Frame as TheFrame};
 ghost use Rattle.ps_stacks.specs.Tops.{first_of};
 ghost use Rattle.ps_step_frames.specs.Steps.{frames_after, procedure_in, rest_frames};
@@ -12,7 +13,7 @@ use ps_word::values::Part;
 #[inline(always)]
 pub fn drop_top(frames: &mut Frames)
     ensures frames { frames.new ≡ drop 1 frames.old }
-    ensures room { length frames.new < 250 }
+    ensures room { length frames.new < frame_limit }
 {
     if frames.len() > 0 {
         frames.discard(1);
@@ -52,7 +53,7 @@ pub fn advance(frames: &mut Frames, rest: Part, count: u16)
     requires top { first_of frames.old ≡ Some (Frame.Procedure rest) }
     requires end { rest.offset + rest.length < 2 ^ 16 }
     ensures frames { frames.new ≡ frames_after count rest (drop 1 frames.old) }
-    ensures room { rest.length ≤ count → length frames.new < 250 }
+    ensures room { rest.length ≤ count → length frames.new < frame_limit }
 {
     if rest.length > count {
         go_further(frames, rest, count);
@@ -64,7 +65,7 @@ pub fn advance(frames: &mut Frames, rest: Part, count: u16)
 /// Pushes what is left of a procedure behind its first element, where something is.
 #[inline(always)]
 pub fn push_rest(frames: &mut Frames, rest: Part)
-    requires room { length frames.old < 250 }
+    requires room { length frames.old < frame_limit }
     requires end { rest.offset + rest.length < 2 ^ 16 }
     ensures frames { frames.new ≡ rest_frames rest frames.old }
     ensures room { length frames.new ≤ length frames.old + 1 }
@@ -83,7 +84,7 @@ pub fn push_rest(frames: &mut Frames, rest: Part)
 #[inline(never)]
 pub fn put_back(frames: &mut Frames, rest: Part)
     requires some { 1 < rest.length → 1 ≤ length frames.old }
-    requires room { rest.length ≤ 1 → length frames.old < 250 }
+    requires room { rest.length ≤ 1 → length frames.old < frame_limit }
     ensures { (below : List TheFrame) → frames.old ≡ rest_frames rest below
         → frames.new ≡ Frame.Procedure rest ∷ below }
 {

@@ -7,6 +7,7 @@ ghost use Rattle.ps_language.specs.Owners.{with_owner};
 ghost use Rattle.ps_language.specs.StepErrors as language;
 ghost use Rattle.ps_language.specs.Value.{Store};
 ghost use Rattle.ps_mem.specs.Heap.{birth_at};
+ghost use Rattle.ps_names.specs.declared.first.TheConstants.{NEWERROR};
 ghost use Rattle.ps_mem.specs.Keeps.{Keeps};
 ghost use Rattle.ps_mem.specs.References.{StandsAs};
 ghost use Rattle.ps_mem.specs.Shows.{IsSound, Shows};
@@ -86,7 +87,7 @@ fn place_of_told<M: Memory>(
 ) -> Option<u32>
     requires sound { IsSound (M.heap memory.old) }
     requires known { StandsAs (M.heap memory.old) Kind.Dictionary address 4 }
-    requires key { IsNamed 131 newerror }
+    requires key { IsNamed NEWERROR newerror }
     ensures heap { M.heap memory.new ≡ M.heap memory.old }
     ensures grants { M.grants memory.new ≡ M.grants memory.old }
     ensures last { IfSome result (λ place. (cause ≡ Cause.Stop) × (frames.now ≡ [])) }
@@ -135,7 +136,7 @@ fn tell<M: Memory>(
     requires good { IsGood (lent_of M.heap M.grants context.old runtime.old) }
     requires known { StandsAs (M.heap runtime.old.memory) Kind.Lock lock 1 }
     requires last { context.old.frames ≡ [] }
-    requires key { IsNamed 131 newerror }
+    requires key { IsNamed NEWERROR newerror }
     requires words { Some place
         ≡ place_of (pairs_at (M.heap runtime.old.memory) context.old.error_dictionary) newerror }
     requires place { (names : List (List ℕ)) (s : Store) → BeginWithFirst names

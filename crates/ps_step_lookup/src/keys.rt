@@ -96,7 +96,6 @@ fn text_key<M: Memory>(memory: &mut M, names: &Names, part: Part) -> Key
     ensures word { IsKeyWord (M.heap memory.old) names.now result }
     ensures key { IsTextKey (M.heap memory.old) names.now part result }
 {
-    let _count = names.len();
     if part.length as usize > NAME_LIMIT {
         return Key::TooLong;
     }

@@ -35,15 +35,15 @@ use Rattle.ps_ops_state.proofs.Meeting.{logs_more, logs_then}
 
 -- ---- words
 
-pub newerror_first : slice_get first_names 131 ≡ Some (codes "newerror")
+pub newerror_first : slice_get first_names 27 ≡ Some (codes "newerror")
 unfolding first_names
 newerror_first = refl
 
-pub errorname_first : slice_get first_names 132 ≡ Some (codes "errorname")
+pub errorname_first : slice_get first_names 28 ≡ Some (codes "errorname")
 unfolding first_names
 errorname_first = refl
 
-pub command_first : slice_get first_names 133 ≡ Some (codes "command")
+pub command_first : slice_get first_names 29 ≡ Some (codes "command")
 unfolding first_names
 command_first = refl
 
@@ -69,13 +69,13 @@ module _ (names : List (List ℕ)) (met : BeginWithFirst names) (births : ℕ �
 -- the entries of an error by the number of its name
 pub record AreNumbered (new : Bool) (by : Word) (number : ℕ) (entries : ErrorEntries) : Type 0
   where
-    pub newerror : IsNamed 131 entries.newerror.0
+    pub newerror : IsNamed 27 entries.newerror.0
     pub truth : (births : ℕ → ℕ) (names : List (List ℕ))
         → value_of births names entries.newerror.1 ≡ boolean new
     pub plain : IsPlain entries.newerror.1
-    pub errorname : IsNamed 132 entries.errorname.0
+    pub errorname : IsNamed 28 entries.errorname.0
     pub name : IsNamed number entries.errorname.1
-    pub command : IsNamed 133 entries.command.0
+    pub command : IsNamed 29 entries.command.0
     pub is : entries.command.1 ≡ by
 
 module _ (new : Bool) (by : Word) (number : ℕ) (entries : ErrorEntries)

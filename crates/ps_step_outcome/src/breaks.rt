@@ -8,6 +8,7 @@ ghost use Rattle.ps_language.specs.Access.{dictionary_at};
 ghost use Rattle.ps_language.specs.StepErrors as language;
 ghost use Rattle.ps_language.specs.Value.{Store};
 ghost use Rattle.ps_mem.specs.Heap.{birth_at};
+ghost use Rattle.ps_names.specs.declared.first.TheConstants.{COMMAND, ERRORNAME, NEWERROR};
 ghost use Rattle.ps_mem.specs.Meaning.{value_of};
 ghost use Rattle.ps_mem.specs.References.{StandsAs};
 ghost use Rattle.ps_mem.specs.Shows.{IsSound, Shows};
@@ -51,7 +52,7 @@ fn is_true(word: Word) -> bool
 pub fn has_new_error<M: Memory>(memory: &mut M, address: u32, keys: ErrorKeys) -> bool
     requires sound { IsSound (M.heap memory.old) }
     requires known { StandsAs (M.heap memory.old) Kind.Dictionary address 4 }
-    requires key { IsNamed 131 keys.newerror }
+    requires key { IsNamed NEWERROR keys.newerror }
     ensures heap { M.heap memory.new ≡ M.heap memory.old }
     ensures grants { M.grants memory.new ≡ M.grants memory.old }
     ensures value { (names : List (List ℕ)) (s : Store) → BeginWithFirst names
@@ -78,8 +79,8 @@ pub fn print_line<M: Memory>(
 ) -> Result<(), AllocError>
     requires sound { IsSound (M.heap memory.old) }
     requires known { StandsAs (M.heap memory.old) Kind.Dictionary address 4 }
-    requires name { IsNamed 132 keys.errorname }
-    requires command { IsNamed 133 keys.command }
+    requires name { IsNamed ERRORNAME keys.errorname }
+    requires command { IsNamed COMMAND keys.command }
     ensures heap { M.heap memory.new ≡ M.heap memory.old }
     ensures grants { M.grants memory.new ≡ M.grants memory.old }
     ensures bounded { StaysBounded output.old output.new }

@@ -8,6 +8,7 @@ ghost use Rattle.ps_language.specs.StepErrors.{error_text};
 ghost use Rattle.ps_language.specs.Worlds.{first_names};
 ghost use Rattle.ps_word.specs.declared.words.Word.{Word as TheWord};
 ghost use Rattle.ps_mem.specs.Heap.{Heap, birth_at};
+ghost use Rattle.ps_names.specs.declared.first.TheConstants.{COMMAND, ERRORNAME, FIRST_TYPE, NEWERROR};
 ghost use Rattle.ps_mem.specs.Meaning.{value_of};
 ghost use Rattle.ps_mem.specs.References.{StandsAs};
 ghost use Rattle.ps_mem.specs.Shows.{IsValue, AreValues, IsWithin, AreWithin, IsSound, pair_of};
@@ -21,27 +22,17 @@ use ps_dict::entries::{ErrorEntries, plan_error, put_error};
 use ps_language::errors::ErrorName;
 use ps_language::kinds::Kind;
 use ps_mem::{Memory, Slot};
+use ps_names::first::{COMMAND, ERRORNAME, FIRST_ERROR, NEWERROR};
 use ps_ops_operands::failure::NotMade;
 use ps_ops_operands::permits::{MOST_RECORDS, permitted};
 use ps_ops_operands::plain;
 use ps_word::values::Content;
 use ps_word::words::Word;
 
-/// The number of `dictstackoverflow` among the names that every run has met at its start; the other
-/// errors follow it by the letter.
-const FIRST_ERROR: u16 = 104;
-
-/// The numbers there of the keys of `$error`.
-const NEWERROR: u16 = 131;
-
-const ERRORNAME: u16 = 132;
-
-const COMMAND: u16 = 133;
-
 /// The number of an error's name.
 fn error_number(error: ErrorName) -> u16
     ensures name { slice_get first_names result ≡ Some (error_text error) }
-    ensures few { result < 120 }
+    ensures few { result < FIRST_TYPE }
 {
     FIRST_ERROR + error as u16
 }
@@ -56,9 +47,9 @@ pub struct ErrorKeys {
 
 /// The words of the keys of `$error`.
 pub fn error_keys() -> ErrorKeys
-    ensures newerror { IsNamed 131 result.newerror }
-    ensures errorname { IsNamed 132 result.errorname }
-    ensures command { IsNamed 133 result.command }
+    ensures newerror { IsNamed NEWERROR result.newerror }
+    ensures errorname { IsNamed ERRORNAME result.errorname }
+    ensures command { IsNamed COMMAND result.command }
 {
     ErrorKeys {
         newerror: Word::literal(Content::Name(NEWERROR)),

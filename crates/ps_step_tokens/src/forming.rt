@@ -5,6 +5,7 @@ ghost use Rattle.std.specs.Prelude.{IsErrOf};
 ghost use Rattle.ps_language.specs.Dictionaries.{meet};
 ghost use Rattle.ps_language.specs.Limits.{name_limit, names_limit};
 ghost use Rattle.ps_language.specs.StepTokens.{names_in};
+ghost use Rattle.ps_names.specs.Names.{AreNames};
 ghost use Rattle.ps_scan.specs.Shown.{token_of};
 ghost use Rattle.ps_step_tokens.specs.Procedures.{IsMore, token_in, tokens_in};
 ghost use Rattle.ps_step_tokens.specs.Short.{AreShort, IsShort};
@@ -23,6 +24,7 @@ fn form_name(names: &mut Names, text: &[u8]) -> Result<(), NamesFault>
         → length names.old < length (meet names.old text.now) }
     ensures long { IsErrOf result NamesFault.TooLong → ⊥ }
     ensures more { IsMore names.old names.new }
+    ensures are { AreNames names.old → AreNames names.new }
 {
     match names.intern(text) {
         Ok(_) => Ok(()),
@@ -45,6 +47,7 @@ fn form_names(names: &mut Names, text: &[u8], elements: &[TokenKind]) -> Result<
         (fold meet names.old (names_in (tokens_in text.now elements.now))) }
     ensures long { IsErrOf result NamesFault.TooLong → ⊥ }
     ensures more { IsMore names.old names.new }
+    ensures are { AreNames names.old → AreNames names.new }
 {
     for element in elements {
         match form_element(names, text, element) {
@@ -67,6 +70,7 @@ fn form_element(names: &mut Names, text: &[u8], element: &TokenKind) -> Result<(
         (fold meet names.old (names_in (token_in text.now element.now))) }
     ensures long { IsErrOf result NamesFault.TooLong → ⊥ }
     ensures more { IsMore names.old names.new }
+    ensures are { AreNames names.old → AreNames names.new }
 {
     match element {
         TokenKind::LiteralName(span)
@@ -97,6 +101,7 @@ pub(crate) fn meet_names(
     ensures long { IsErrOf result NamesFault.TooLong → ⊥ }
     ensures fault { OnErr result (names.new ≡ names.old) }
     ensures more { IsMore names.old names.new }
+    ensures are { OnOk result (AreNames names.new) }
 {
     let count = names.len();
     match form_names(names, text, elements) {

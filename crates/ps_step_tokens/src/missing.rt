@@ -4,6 +4,7 @@ ghost use Rattle.std.specs.Prelude.{◌≡◌, ◌<◌, ◌≤◌, length, optio
 ghost use Rattle.ps_language.specs.Limits.{name_limit};
 ghost use Rattle.ps_language.specs.StepTokens.{missing_in};
 ghost use Rattle.ps_language.specs.Value.{Store};
+ghost use Rattle.ps_names.specs.Names.{AreNames};
 ghost use Rattle.ps_mem.specs.Heap.{Heap};
 ghost use Rattle.ps_mem.specs.Shows.{AreValues, IsSound, IsValue, Shows};
 ghost use Rattle.ps_scan.specs.Shown.{part_of, token_of};
@@ -37,8 +38,8 @@ pub(crate) struct MissingName {
 fn met_key(names: &Names, text: &[u8]) -> Option<Word>
     ensures held { (h : Heap) → IfSome result (IsValue h) }
     ensures key { IsMetKey names.now text.now result }
+    ensures names { AreNames names.now }
 {
-    let _count = names.len();
     match names.find(text) {
         Some(id) => Some(name_word(id, true)),
         None => None,
@@ -60,8 +61,6 @@ fn look_up_error<M: Memory>(
     ensures value { (s : Store) → Shows (M.heap memory.old) names.now s → result
         ≡ error_of (look_by (M.heap memory.old) names.now dictionaries.now s text.now) }
 {
-    let _count = names.len();
-    let _count = names.len();
     let key = met_key(names, text);
     match look_up(memory, dictionaries, key) {
         Ok(Some(_)) => None,

@@ -6,6 +6,7 @@ ghost use Rattle.std.specs.Str.{bytes_eq};
 ghost use Rattle.ps_language.specs.StepTokens.{names_in, value_or_null};
 ghost use Rattle.ps_language.specs.Token.{procedure_token};
 ghost use Rattle.ps_language.specs.Value.{Store};
+ghost use Rattle.ps_names.specs.Names.{AreNames};
 ghost use Rattle.ps_mem.specs.Heap.{SameLogs, birth_at};
 ghost use Rattle.ps_mem.specs.Meaning.{value_of};
 ghost use Rattle.ps_mem.specs.Shows.{AreValues, AreWithin, IsSound, IsValue, IsWithin, Shows};
@@ -31,9 +32,9 @@ use ps_word::words::Word;
 /// The word of a name that was met.
 fn met_word(names: &Names, text: &[u8], executable: bool) -> Word
     requires { list_any (bytes_eq text.now) names.now ≡ true }
-    ensures { IsMetWord names.now text.now executable result }
+    ensures word { IsMetWord names.now text.now executable result }
+    ensures names { AreNames names.now }
 {
-    let _count = names.len();
     let Some(id) = names.find(text) else {
         unreachable!();
     };
@@ -60,7 +61,6 @@ fn value_word<M: Memory>(
         → value_of (birth_at (M.heap memory.old)) names.now result ≡ value_or_null
         (look_by (M.heap memory.old) names.now dictionaries.now s text.now) }
 {
-    let _count = names.len();
     let name = met_word(names, text, true);
     match look_up(memory, dictionaries, Some(name)) {
         Ok(Some(found)) => found.1,

@@ -103,16 +103,13 @@ fn do_named<M: Memory>(
 {
     let count = runtime.shared.names.len();
     match meet_names(&mut runtime.shared.names, text, elements) {
-        Ok(()) => {
-            let _formed = runtime.shared.names.len();
-            match do_formed(elements, text, context, runtime, attempt) {
-                Ok(turned) => Ok(turned),
-                Err(reason) => {
-                    runtime.shared.names.truncate(count);
-                    Err(reason)
-                }
+        Ok(()) => match do_formed(elements, text, context, runtime, attempt) {
+            Ok(turned) => Ok(turned),
+            Err(reason) => {
+                runtime.shared.names.truncate(count);
+                Err(reason)
             }
-        }
+        },
         Err(NamesFault::Full) => raise(
             ErrorName::LimitCheck,
             plain::null(),

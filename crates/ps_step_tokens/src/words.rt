@@ -22,8 +22,6 @@ fn met_word(kind: NameKind, text: &[u8], names: &Names) -> Option<Word>
     ensures known { is_some result ≡ list_any (bytes_eq text.now) names.now }
     ensures names { AreNames names.now }
 {
-    // what stands are names, so their numbers are below the limit
-    let _ = names.len();
     let id = names.find(text)?;
     Some(name_word(id, kind.is_executed()))
 }

@@ -6,7 +6,7 @@ use Rattle.std.proofs.lemmas.Bool.{true≢false}
 use Rattle.std.proofs.lemmas.List.{append_assoc, length-append}
 use Rattle.ps_core_machine.specs.declared.events.Event.{Event}
 use Rattle.ps_core_machine.specs.declared.events.Event.TheVariants.{VmLoad}
-use Rattle.ps_table.specs.Events.{OnlyLooks, is_look_or_flip}
+use Rattle.ps_core_laws.specs.Looks.{OnlyLooks, is_look_or_flip}
 use Rattle.ps_table.specs.Shown.{BothLook, SeatState}
 
 pub no_looks : (most : ℕ) (events : List Event) → OnlyLooks most events events

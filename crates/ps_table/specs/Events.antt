@@ -1,14 +1,12 @@
 -- The events that a call of a seat makes, the oldest first.
-use Rattle.std.specs.Prelude.{ℕ, ◌≡◌, ◌≤◌, ◌+◌, Bool, true, false, List, [], ◌∷◌, ◌++◌, length}
+use Rattle.std.specs.Prelude.{ℕ, ◌+◌, List, [], ◌∷◌, ◌++◌}
 use Rattle.std.specs.Prelude.{◌==◌, if◌then◌else◌}
-use Rattle.std.specs.List.{list_all}
 use Rattle.ps_word.specs.Format.{address_in}
 use Rattle.ps_record.specs.Format.{head_place}
 use Rattle.ps_word.specs.Readers.{is_reference}
 use Rattle.ps_core_machine.specs.declared.events.Event.{Event}
 use Rattle.ps_core_machine.specs.declared.events.Event.TheVariants.{VmLoad, GcLoad, ClearStore}
 use Rattle.ps_core_machine.specs.declared.events.Event.TheVariants.{HeaderStore, FieldStore}
-use Rattle.ps_core_machine.specs.declared.events.Event.TheVariants.{CycleStore}
 use Rattle.ps_core_machine.specs.declared.events.Gc.{Gc}
 use Rattle.ps_core_machine.specs.Objects.{pair_of}
 use Rattle.ps_core_machine.specs.Steps.{forwarding, replica_of}
@@ -60,19 +58,3 @@ root_look g w = if is_reference w then GcLoad (address_in w + 1)
 abbrev pub root_looks : Gc → List ℕ → List Event
 root_looks g [] = []
 root_looks g (w ∷ ws) = root_look g w ++ root_looks g ws
-
--- ---- looks
-
--- a load, or the flip
-abbrev pub is_look_or_flip : Event → Bool
-is_look_or_flip (VmLoad place word) = true
-is_look_or_flip (GcLoad place word) = true
-is_look_or_flip (CycleStore roots) = true
-is_look_or_flip _ = false
-
--- at most so many events more, each a load or the flip
-pub record OnlyLooks (most : ℕ) (old new : List Event) : Type 0 where
-  pub more : List Event
-  pub is : new ≡ more ++ old
-  pub looks : list_all is_look_or_flip more ≡ true
-  pub few : length more ≤ most

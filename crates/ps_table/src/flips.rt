@@ -12,14 +12,12 @@ ghost use Rattle.ps_table.specs.Mirrored.{Sits};
 ghost use Rattle.ps_table.specs.Shown.{both_did};
 
 use crate::collector::GcSeat;
-use crate::joins::flip;
 use crate::mirror::Mirror;
-use crate::plays::Naming;
+use crate::plays::{Flips, StepNaming};
 use crate::words::Words;
 use ps_record::{SLOTS, SPACES_START};
 use ps_word::headers::Forward;
 use ps_word::words::Word;
-use std::marker::Brand;
 
 impl<W: Words> GcSeat<W> {
     /// The root, naming the replica of what it names; a root that is no reference stays.
@@ -57,7 +55,9 @@ impl<W: Words> GcSeat<W> {
         }
     }
 
-    fn store_cycle_named<N: Naming>(&mut self, mirror: &mut Mirror, roots: &mut [Word], end: u64)
+    /// The flip, by a seat that has both sides: the replicas, whose last one ends there, become the
+    /// standing objects, and the roots are renamed.
+    pub fn store_cycle<N: StepNaming>(&mut self, mirror: &mut Mirror, roots: &mut [Word], end: u64)
         requires named { N.roots ≡ numbers roots.old }
         requires sits { Sits (W.id self.old.table).words self.old.seat.me mirror.old }
         requires is { end ≡ end_of_replicas (other_base self.old.seat.me.0.gc.space
@@ -80,37 +80,12 @@ impl<W: Words> GcSeat<W> {
             ≡ map (renamed_value self.old.seat.me.0.gc.pairs) (numbers roots.old) }
     {
         self.rename(roots);
-        flip::<W, N>(&mut self.table, &mut self.seat, mirror.epoch);
+        self.table
+            .store::<Flips<N>>(&mut self.seat, 0, mirror.epoch);
         mirror.base = 2 * SPACES_START + mirror.space - mirror.base;
         mirror.end = end;
         mirror.fresh_from = end;
         mirror.cycle_open = false;
         mirror.shut = [false; SLOTS as usize];
-    }
-
-    /// The flip, by a seat that has both sides: the replicas, whose last one ends there, become the
-    /// standing objects, and the roots are renamed.
-    pub fn store_cycle(&mut self, mirror: &mut Mirror, roots: &mut [Word], end: u64)
-        requires sits { Sits (W.id self.old.table).words self.old.seat.me mirror.old }
-        requires is { end ≡ end_of_replicas (other_base self.old.seat.me.0.gc.space
-            self.old.seat.me.0.gc.cycle) self.old.seat.me.0.gc.pairs }
-        requires vm { VmMay self.old.seat.me.0.vm (CycleStore (numbers roots.old)) }
-        requires gc { GcMay self.old.seat.me.0.gc (CycleStore (numbers roots.old)) }
-        requires drained { self.old.seat.me.0.gc.taken ≡ self.old.seat.me.0.vm.logs }
-        requires meet { (self.old.seat.me.0.vm.space ≡ self.old.seat.me.0.gc.space)
-            × (self.old.seat.me.0.vm.cycle ≡ self.old.seat.me.0.gc.cycle) }
-        ensures sits { Sits (W.id self.new.table).words self.new.seat.me mirror.new }
-        ensures same { W.id self.new.table ≡ W.id self.old.table }
-        ensures did { self.new.seat.me.0 ≡ both_did (gc_did_all self.old.seat.me.0
-            (root_looks self.old.seat.me.0.gc (numbers roots.old)))
-            (CycleStore (numbers roots.old)) }
-        ensures parts { (self.new.seat.me.0.vm ≡ vm_after self.old.seat.me.0.vm
-            self.old.seat.me.0.gc (CycleStore (numbers roots.old)))
-            × (self.new.seat.me.0.gc ≡ gc_after self.old.seat.me.0.gc
-            self.old.seat.me.0.vm (CycleStore (numbers roots.old))) }
-        ensures renamed { numbers roots.new
-            ≡ map (renamed_value self.old.seat.me.0.gc.pairs) (numbers roots.old) }
-    {
-        self.store_cycle_named::<Brand>(mirror, roots, end);
     }
 }

@@ -8,12 +8,12 @@ ghost use Rattle.ps_core_machine.specs.Objects.{pair_of};
 ghost use Rattle.ps_core_machine.specs.Steps.{table_size, replica_of, word_stored};
 ghost use Rattle.ps_table.specs.Shown.{GcRuns, GcDoes, GcStores};
 
-use crate::plays::{CopiesField, Naming, StoresCopy, View};
+use crate::plays::{CopiesField, StepNaming, StoresCopy, View};
 use crate::words::Words;
 use atomic_table::Seat;
 use std::marker::Brand;
 
-fn gc_copy_named<W: Words, N: Naming>(
+fn gc_copy_named<W: Words, N: StepNaming>(
     words: &mut W,
     seat: &mut Seat<(), View>,
     original: u64,
@@ -52,7 +52,7 @@ pub(crate) fn gc_copy<W: Words>(
     gc_copy_named::<W, Brand>(words, seat, original, field)
 }
 
-fn gc_fill_named<W: Words, N: Naming>(
+fn gc_fill_named<W: Words, N: StepNaming>(
     words: &mut W,
     seat: &mut Seat<(), View>,
     replica: u64,

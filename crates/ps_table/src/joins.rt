@@ -1,13 +1,12 @@
 //! The two seats joined, and apart again.
-ghost use Rattle.std.specs.Prelude.{◌≡◌, ◌<◌, ◌+◌, true, []};
-ghost use Rattle.ps_core_machine.specs.declared.events.Event.TheVariants.{HandOver, CycleStore};
-ghost use Rattle.ps_core_machine.specs.Conditions.{VmMay, GcMay};
+ghost use Rattle.std.specs.Prelude.{◌≡◌, ◌<◌, true, []};
+ghost use Rattle.ps_core_machine.specs.declared.events.Event.TheVariants.{HandOver};
 ghost use Rattle.ps_core_machine.specs.Objects.{values_stand};
 ghost use Rattle.ps_core_machine.specs.Steps.{table_size};
 ghost use Rattle.ps_core_laws.specs.Stores.{numbers};
 ghost use Rattle.ps_table.specs.Shown.{BothDo, BothLook, both_sides, vm_side, gc_side};
 
-use crate::plays::{Flips, HandsOver, Looks, Naming, Parts, Spares, View};
+use crate::plays::{HandsOver, Looks, Parts, Spares, StepNaming, View};
 use crate::words::{SharedTable, Words};
 use atomic_table::Seat;
 use ps_word::words::Word;
@@ -43,7 +42,11 @@ pub fn part(words: &SharedTable, vm: &mut Seat<(), View>, gc: &mut Seat<(), View
     *gc = words.shared.split_seat::<Parts>(vm);
 }
 
-fn hand_named<W: Words, N: Naming>(words: &mut W, seat: &mut Seat<(), View>, roots: &[Word]) -> u64
+fn hand_named<W: Words, N: StepNaming>(
+    words: &mut W,
+    seat: &mut Seat<(), View>,
+    roots: &[Word],
+) -> u64
     requires named { N.roots ≡ numbers roots.now }
     requires same { W.seats words.old seat.old
         × ((W.id words.old).words ≡ table_size seat.old.me.0.vm.space) }
@@ -77,19 +80,4 @@ pub(crate) fn look<W: Words>(words: &mut W, seat: &mut Seat<(), View>, place: u6
     ensures does { BothLook seat.old.me place result seat.new.me }
 {
     words.load::<Looks>(seat, place)
-}
-
-/// Stores the cycle word, by both seats joined: the flip.
-pub(crate) fn flip<W: Words, N: Naming>(words: &mut W, seat: &mut Seat<(), View>, cycle: u64)
-    requires same { W.seats words.old seat.old
-        × ((W.id words.old).words ≡ table_size seat.old.me.0.vm.space) }
-    requires acts { (seat.old.me.0.acts_vm ≡ true) × (seat.old.me.0.acts_gc ≡ true) }
-    requires is { cycle ≡ seat.old.me.0.gc.cycle + 1 }
-    requires vm { VmMay seat.old.me.0.vm (CycleStore N.roots) }
-    requires gc { GcMay seat.old.me.0.gc (CycleStore N.roots) }
-    requires drained { seat.old.me.0.gc.taken ≡ seat.old.me.0.vm.logs }
-    ensures same { W.seats words.new seat.new × (W.id words.new ≡ W.id words.old) }
-    ensures does { BothDo seat.old.me (CycleStore N.roots) seat.new.me }
-{
-    words.store::<Flips<N>>(seat, 0, cycle);
 }

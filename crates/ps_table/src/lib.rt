@@ -17,7 +17,8 @@
 //! - Proofs of a seat's methods cite the lemmas behind `law` and don't call it: such a call in each
 //!   load would have to be inlined away. So these lemmas are `pub`.
 //! - The flip is a call of the seat that has both parts, lent the mutator's numbers
-//!   (`store_cycle`): it alone knows both where the replicas end and what the roots are.
+//!   (`store_cycle`): it alone knows both where the replicas end and what the roots are. Who calls
+//!   it names the roots (`StepNaming`), since the store's word doesn't have them.
 //! - `counts` gives the 32 heads and not their sum, which may not fit one number. Whoever adds them
 //!   knows a bound.
 #![tactic(auto)]
@@ -48,6 +49,6 @@ pub use joins::{join, part};
 pub use mirror::Mirror;
 pub use mutator::VmSeat;
 pub use plain_words::PlainWords;
-pub use plays::{Heap, View};
+pub use plays::{Heap, StepNaming, View};
 pub use shared::SharedSeats;
 pub use words::{SharedTable, SharedWords, Words};

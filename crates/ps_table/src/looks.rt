@@ -4,7 +4,7 @@ ghost use Rattle.std.specs.Prelude.{◌≡◌, ◌<◌, ◌+◌, true};
 ghost use Rattle.ps_core_machine.specs.Objects.{value_has_replica, value_stands};
 ghost use Rattle.ps_core_machine.specs.Steps.{table_size};
 ghost use Rattle.ps_core_laws.specs.MemoryLaws.{StaysAfterLoad};
-ghost use Rattle.ps_table.specs.Events.{OnlyLooks};
+ghost use Rattle.ps_core_laws.specs.Looks.{OnlyLooks};
 ghost use Rattle.ps_table.specs.Mirrored.{Sits};
 ghost use Rattle.ps_table.specs.Shown.{BothLook, BothRun};
 

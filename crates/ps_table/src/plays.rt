@@ -58,7 +58,7 @@ impl Split<View> for Spares {
 }
 
 /// Names what a step doesn't carry in its operands. Each call picks them.
-pub(crate) trait Naming {
+pub trait StepNaming {
     ghost use Rattle.std.specs.Prelude.{ℕ, Bool, List};
 
     ghost address: { ℕ };
@@ -70,7 +70,7 @@ pub(crate) trait Naming {
     ghost scans: { Bool };
 }
 
-impl Naming for Brand {
+impl StepNaming for Brand {
     ghost use Rattle.std.specs.Prelude.{[], false};
 
     ghost address = { 0 };
@@ -118,7 +118,7 @@ pub(crate) struct StoresField<N> {
     place: PhantomData<N>,
 }
 
-impl<N: Naming> Play<(), View> for StoresField<N> {
+impl<N: StepNaming> Play<(), View> for StoresField<N> {
     ghost use Rattle.ps_table.specs.Shown.{stores_field};
 
     ghost then = { stores_field N.address N.field };
@@ -160,7 +160,7 @@ pub(crate) struct CopiesField<N> {
     place: PhantomData<N>,
 }
 
-impl<N: Naming> Play<(), View> for CopiesField<N> {
+impl<N: StepNaming> Play<(), View> for CopiesField<N> {
     ghost use Rattle.ps_table.specs.Shown.{copies_field};
 
     ghost then = { copies_field N.address N.field };
@@ -170,7 +170,7 @@ pub(crate) struct StoresCopy<N> {
     scans: PhantomData<N>,
 }
 
-impl<N: Naming> Play<(), View> for StoresCopy<N> {
+impl<N: StepNaming> Play<(), View> for StoresCopy<N> {
     ghost use Rattle.ps_table.specs.Shown.{stores_copy};
 
     ghost then = { stores_copy N.scans };
@@ -204,7 +204,7 @@ pub(crate) struct HandsOver<N> {
     roots: PhantomData<N>,
 }
 
-impl<N: Naming> Play<(), View> for HandsOver<N> {
+impl<N: StepNaming> Play<(), View> for HandsOver<N> {
     ghost use Rattle.ps_table.specs.Shown.{hands};
 
     ghost then = { hands N.roots };
@@ -222,7 +222,7 @@ pub(crate) struct Flips<N> {
     roots: PhantomData<N>,
 }
 
-impl<N: Naming> Play<(), View> for Flips<N> {
+impl<N: StepNaming> Play<(), View> for Flips<N> {
     ghost use Rattle.ps_table.specs.Shown.{flips};
 
     ghost then = { flips N.roots };

@@ -10,7 +10,7 @@ ghost use Rattle.ps_core_laws.specs.Shown.{VmRuns};
 ghost use Rattle.ps_table.specs.Shown.{VmDoes, VmStores, looked};
 
 use crate::plays::{
-    Clears, FindsClear, Makes, Naming, OpensCycle, Records, StoresField, View, VmLoads,
+    Clears, FindsClear, Makes, OpensCycle, Records, StepNaming, StoresField, View, VmLoads,
 };
 use crate::words::Words;
 use atomic_table::Seat;
@@ -83,7 +83,7 @@ pub(crate) fn vm_make<W: Words>(words: &mut W, seat: &mut Seat<(), View>, end: u
     words.store::<Makes>(seat, end, header);
 }
 
-fn vm_field_named<W: Words, N: Naming>(
+fn vm_field_named<W: Words, N: StepNaming>(
     words: &mut W,
     seat: &mut Seat<(), View>,
     address: u64,

@@ -6,7 +6,7 @@ use crate::runs::CONFIG;
 use ps_gc::{Inside, SerialSpaces};
 use ps_mem::Slot;
 use ps_ops_operands::failure::NotMade;
-use ps_vault::{ANY_ENTRIES, Closing, Config, Room, RootList, Told, Vault};
+use ps_vault::{ANY_ENTRIES, Closing, Config, Room, RootList, Vault};
 use std::alloc::{AllocError, Global};
 use std::hash::RandomState;
 
@@ -60,11 +60,11 @@ pub fn held_up(
     }
     let turn = vault.turns(FIRST, AMPLE, AMPLE);
     let text = vault.into_printed();
-    if held.told == Told::HeldUp(NotMade::Memory) || turn.held {
+    if held.told == Err(NotMade::Memory) || turn.is_held_up() {
         return Ok(Verdict::WantsMemory);
     }
     let is_closed = first == Closing::Closed && again == Closing::Closed;
-    let is_held = held.told == Told::HeldUp(NotMade::LogClosed) && stays_open;
+    let is_held = held.told == Err(NotMade::LogClosed) && stays_open;
     let is_ended = has_ended && is_shut;
     Ok(Verdict::of(is_closed && is_held && is_ended && text.as_slice() == printed))
 }

@@ -11,9 +11,6 @@ use Rattle.ps_mem.proofs.Lists.{all_append}
 use Rattle.ps_core_laws.specs.Collected.{IsCollected}
 use Rattle.ps_core_laws.proofs.Objects.{sound-moved}
 use Rattle.ps_core_laws.proofs.Words.{AreValues-moved}
-use Rattle.ps_gc.specs.declared.flips.Flip.{Flip}
-use Rattle.ps_gc.specs.declared.flips.Flip.TheVariants.{Done, NotReady}
-use Rattle.ps_gc.specs.declared.flips.Unready.{Unready}
 
 pub same_ready : (h now : Heap) (words : List Word) → now ≡ h → IsReady h words
     → IsReady now words
@@ -71,10 +68,3 @@ module _ (h now : Heap) (words roots renamed : List Word) (n : ℕ) (count : len
       → IsReady now (take n (renamed ++ drop (length renamed) words))
   perhaps_ready true is heap kept = moved_ready (is refl)
   perhaps_ready false is heap kept = stayed_ready (heap refl) (kept refl)
-
-  pub tried_ready : (flip : Flip) → (flip ≡ Done → IsCollected h now roots renamed)
-      → ((why : Unready) → flip ≡ NotReady why → (renamed ≡ roots) × (now ≡ h))
-      → IsReady now (take n (renamed ++ drop (length renamed) words))
-  tried_ready Done moved kept = moved_ready (moved refl)
-  tried_ready (NotReady why) moved kept =
-      let same_as = kept why refl in stayed_ready same_as.1 same_as.0

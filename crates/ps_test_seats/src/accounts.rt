@@ -3,7 +3,8 @@
 //! answer. Where a number is out of range nothing is done.
 
 use crate::arrays::{Item, Store};
-use ps_gc::{Drained, Flip, Unready};
+use ps_core_laws::{Flip, Unready};
+use ps_gc::Drained;
 use ps_record::{Record, SLOTS};
 use std::alloc::{AllocError, Global};
 

@@ -216,7 +216,7 @@ impl<M: LoggedMemory + Drop> Arrays<M> {
     }
 
     /// Whether a cycle is open.
-    pub fn is_open(&mut self) -> bool {
+    pub fn is_open(&self) -> bool {
         self.memory.is_open()
     }
 

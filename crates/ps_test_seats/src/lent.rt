@@ -5,6 +5,7 @@ ghost use Rattle.std.specs.Prelude.{◌≡◌};
 
 use crate::arrays::Arrays;
 use crate::sides::{SPACE, Seats};
+use ps_core_laws::Flip;
 use ps_core_laws::sides::{Collects, LoggedMemory, Works};
 use ps_gc::{Copier, MutatorSeat, Naming, named_seats};
 use std::alloc::{AllocError, Global};
@@ -43,7 +44,7 @@ impl<J: Naming> Lent<J> {
     }
 
     /// Tries to flip, with the words of all arrays as roots.
-    pub fn try_flip(&mut self) -> Option<bool> {
+    pub fn try_flip(&mut self) -> Option<Flip> {
         let arrays = &mut self.arrays;
         if !arrays.memory.is_open() {
             return None;

@@ -13,8 +13,9 @@ ghost use Rattle.ps_gc.specs.Known.{are_known};
 ghost use Rattle.ps_test_seats.specs.declared.sides.TheConstants.{SPACE};
 
 use crate::arrays::Arrays;
+use ps_core_laws::Flip;
 use ps_core_laws::sides::LoggedMemory;
-use ps_gc::{Collector, Drained, Flip, MutatorSeat, Naming};
+use ps_gc::{Collector, Drained, MutatorSeat, Naming};
 use ps_record::slots::Slot;
 use ps_record::{SLOTS, SPACES_START};
 use ps_table::{GcSeat, SharedSeats, VmSeat};

@@ -4,15 +4,14 @@ ghost use Rattle.std.specs.Prelude.{◌≡◌, ◌+◌, ◌<◌, ◌≤◌, ◌+
 ghost use Rattle.std.specs.Prelude.{OnOk, OnErr, vec_capacity};
 ghost use Rattle.std.specs.Fmt.{signed_decimal};
 ghost use Rattle.ps_language.specs.Access as language;
-ghost use Rattle.ps_language.specs.OperatorNames as operators;
+ghost use Rattle.ps_language.specs.Operators as operators;
 ghost use Rattle.ps_language.specs.Texts as texts;
 ghost use Rattle.ps_mem.specs.Meaning.{text_of_name};
 ghost use Rattle.ps_text.specs.Shown.{GoesOn, separator};
 
 use itoa::Buffer;
 use ps_language::access::Access;
-use ps_language::operators::Operator;
-use ps_names::texts::operator_name;
+use ps_language::operators::{Operator, operator_name};
 use ps_names::{NameId, Names};
 use std::alloc::AllocError;
 

@@ -14,8 +14,8 @@ ghost use Rattle.ps_mem.specs.Shows.{IsValue, IsSound, IsWithinContent, IsWithin
 use crate::appends::{add, append_ended, boolean_text, is_readable};
 use itoa::Buffer;
 use ps_language::kinds::Kind;
+use ps_language::operators::operator_name;
 use ps_mem::Memory;
-use ps_names::texts::operator_name;
 use ps_names::{NameId, Names};
 use ps_seq::strings::append_bytes;
 use ps_word::values::{Content, Part};

@@ -1,5 +1,5 @@
 -- What a vault keeps over steps of one context.
-use Rattle.std.proofs.Common.{◌≡◌, ℕ, ℤ, zero, suc, ◌+◌, ◌^◌, ◌<◌, ◌≤◌, Bool, true, false, ◌&&◌, Option, Some, None, List, [], ◌∷◌, ◌++◌, refl, sym, ◌∙◌, ap, subst, arith}
+use Rattle.std.proofs.Common.{◌≡◌, ℕ, ℤ, zero, suc, ◌+◌, ◌^◌, ◌<◌, ◌≤◌, Bool, true, false, ◌&&◌, Option, Some, None, Result, Ok, List, [], ◌∷◌, ◌++◌, refl, sym, ◌∙◌, ap, subst, arith}
 use Rattle.std.specs.Prelude.{IsTrue, IsSome, IfSome, not, replicate}
 use Rattle.std.specs.List.{list_all}
 use Rattle.std.specs.Option.{option_map_or}
@@ -14,6 +14,7 @@ use Rattle.ps_language.specs.Worlds.{after_move, after_moves, starting_world, wo
 use Rattle.ps_language.proofs.ScheduleLaws.{moves-added, count_of-added, longest-added}
 use Rattle.ps_language.proofs.WorldLaws.{after_moves-append, all_ready-append}
 use Rattle.ps_mem.specs.Heap.{Space}
+use Rattle.ps_ops_operands.specs.declared.failure.NotMade.{NotMade}
 use Rattle.ps_ctx.specs.declared.notes.Note.{Note}
 use Rattle.ps_ctx.specs.declared.notes.Note.TheVariants.{Nothing, TurnEnds, ShowsMemory, Wishes}
 use Rattle.ps_ctx.specs.declared.worlds.Calling.{Calling}
@@ -157,6 +158,13 @@ ends_noted Nothing is = absurd (cc)
 ends_noted TurnEnds is = refl
 ends_noted ShowsMemory is = absurd (cc)
 ends_noted (Wishes number) is = absurd (cc)
+
+pub ends_told : (note : Note) (told : Result Note NotMade) → told ≡ Ok note → told ≡ Ok TurnEnds
+    → note_of note ≡ turn_ends
+ends_told Nothing told is ends = absurd (cc)
+ends_told TurnEnds told is ends = refl
+ends_told ShowsMemory told is ends = absurd (cc)
+ends_told (Wishes number) told is ends = absurd (cc)
 
 pub wish_noted : (note : Note) (number : ℤ) → wish_in note ≡ Some number
     → note_of note ≡ effect.wishes number

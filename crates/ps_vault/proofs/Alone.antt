@@ -9,7 +9,8 @@ use Rattle.ps_language.specs.World.{World}
 use Rattle.ps_language.specs.Worlds.{after_moves}
 use Rattle.ps_language.proofs.WorldLaws.{after_moves-append}
 use Rattle.ps_ctx.specs.Steps.{AllFrom}
-use Rattle.ps_vault.specs.declared.turns.Turn.{Turn}
+use Rattle.ps_vault.specs.declared.vaults.Advanced.{Advanced}
+use Rattle.ps_vault.specs.Holds.{is_held_up}
 use Rattle.ps_vault.specs.Order.{IsAlone, AddsSteps, KeepsTurn, NoneEnds, IsOfOne, AllOfOne, OnlyLastMayEnd, EndsTurn, IsOver, AddsWhole, no_whole, whole_more, AddsTurns, IsTurnEnd}
 use Rattle.ps_vault.proofs.Ordering.{adds_length, adds_more, adds_none, adds_all_more, all_from-split, only_last_more, only_last_of}
 
@@ -310,10 +311,10 @@ module _ (quantum : ℕ) (start : World) (context : ℕ) (old : List Move) where
 
   -- ---- what turns of it came to
 
-  module _ (most : ℕ) (turn : Turn) (new : List Move) where
-    pub turns_begun : (count : ℕ) → Begun count new → (turn.held ≡ true → count < quantum)
-        → (turn.held ≡ false → 1 ≤ count)
-        → (turn.held ≡ false → IsTurnEnd quantum most turn.made
+  module _ (most : ℕ) (turn : Advanced) (new : List Move) where
+    pub turns_begun : (count : ℕ) → Begun count new → (is_held_up turn.told ≡ true → count < quantum)
+        → (is_held_up turn.told ≡ false → 1 ≤ count)
+        → (is_held_up turn.told ≡ false → IsTurnEnd quantum most turn.made
         → IsOver quantum start context count new)
         → AddsTurns quantum most start context turn old new
     turns_begun count begun less some over = record {
@@ -331,7 +332,7 @@ module _ (quantum : ℕ) (start : World) (context : ℕ) (old : List Move) where
     -- its last step ended it
     pub turns_ended : (whole : List Move) (count : ℕ) → AddsWhole quantum start context old whole
         → count ≤ quantum → 1 ≤ count → AddsSteps context count whole new
-        → OnlyLastMayEnd start whole new → turn.held ≡ false → EndsTurn start context new
+        → OnlyLastMayEnd start whole new → is_held_up turn.told ≡ false → EndsTurn start context new
         → AddsTurns quantum most start context turn old new
     turns_ended whole count turns within some adds only_last free ends = record {
       whole = whole;

@@ -13,7 +13,8 @@ use Rattle.ps_language.proofs.ScheduleLaws.{moves-added}
 use Rattle.ps_language.proofs.WorldLaws.{after_moves-append}
 use Rattle.ps_ctx.specs.Steps.{AllFrom}
 use Rattle.ps_run_schedules.specs.Turns.{added_times}
-use Rattle.ps_vault.specs.declared.turns.Turn.{Turn}
+use Rattle.ps_vault.specs.declared.vaults.Advanced.{Advanced}
+use Rattle.ps_vault.specs.Holds.{is_held_up}
 use Rattle.ps_vault.specs.Order.{IsNoneAbove, IsLeastAbove, IsNext, IsAlone, AddsSteps, KeepsTurn, AddsAll, NoneEnds, OnlyLastMayEnd, AddsTurn, AreTurns, no_turn, one_more, IsDue, AddsWhole, no_whole, whole_more, AddsTurns, IsTurnEnd, HasTurn, InOrder}
 use Rattle.ps_vault.specs.Stories.{Story, world_at}
 use Rattle.ps_vault.proofs.Following.{times_moves}
@@ -263,7 +264,7 @@ module _ (quantum : ℕ) (start : World) where
         next = alone_next context (after_moves start next) alone;
       }
 
-  module _ (context most : ℕ) (turn : Turn) (old new : List Move) (some : 1 ≤ quantum)
+  module _ (context most : ℕ) (turn : Advanced) (old new : List Move) (some : 1 ≤ quantum)
       (due : IsDue quantum start context old)
       (goes : AddsTurns quantum most start context turn old new) where
     due_last : IsDue quantum start context goes.whole
@@ -276,7 +277,7 @@ module _ (quantum : ℕ) (start : World) where
         (goes.only_last some)
 
     -- the last one is over
-    pub turns_over : turn.held ≡ false → IsTurnEnd quantum most turn.made → Passing context new
+    pub turns_over : is_held_up turn.told ≡ false → IsTurnEnd quantum most turn.made → Passing context new
     turns_over free ends = record {
       last = context;
       turns = one_more due_last.turns (last_turn (goes.some free)) (goes.over free ends);
@@ -303,7 +304,7 @@ module _ (quantum : ℕ) (start : World) where
         }
 
     -- the next step was held up
-    pub turns_held : turn.held ≡ true → HasTurn quantum start context new
+    pub turns_held : is_held_up turn.told ≡ true → HasTurn quantum start context new
     turns_held held = by goes.count refl
       where
         by : (n : ℕ) → goes.count ≡ n → HasTurn quantum start context new

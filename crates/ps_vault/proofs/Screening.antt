@@ -11,7 +11,7 @@ use Rattle.ps_language.specs.Schedules.{Begins, Move, added, moves}
 use Rattle.ps_language.specs.Worlds.{printed, world}
 use Rattle.ps_language.proofs.PrintedSteps.{printed-begins}
 use Rattle.ps_language.proofs.ScheduleLaws.{moves-added}
-use Rattle.ps_vault.specs.declared.turns.Turn.{Turn}
+use Rattle.ps_vault.specs.declared.vaults.Advanced.{Advanced}
 use Rattle.ps_vault.specs.Order.{AddsSteps, AddsTurns, AddsWhole, no_whole, whole_more, IsTurnEnd}
 use Rattle.ps_vault.specs.Screens.{AreSeen, HasShown, Sight}
 use Rattle.ps_vault.specs.Stories.{Story, world_at}
@@ -54,7 +54,7 @@ behind_whole quantum start context old new (whole_more mid next turns adds none 
     behind_then old mid new (behind_whole quantum start context old mid turns)
     (adds.steps, sym adds.is)
 
-pub begins_turns : (quantum most : ℕ) (start : _) (context : ℕ) (turn : Turn)
+pub begins_turns : (quantum most : ℕ) (start : _) (context : ℕ) (turn : Advanced)
     (old new : List Entry)
     → AddsTurns quantum most start context turn (moves old) (moves new) → Begins old new
 begins_turns quantum most start context turn old new goes =

@@ -1,5 +1,5 @@
 -- When a step is held up.
-use Rattle.std.specs.Prelude.{◌≡◌, ◌<◌, ◌≤◌, ◌%◌, ℕ, ℤ, Bool, true, false, Option, Some, None}
+use Rattle.std.specs.Prelude.{◌≡◌, ◌<◌, ◌≤◌, ◌%◌, ℕ, ℤ, Bool, true, false, Option, Some, None, Result, Ok, Err}
 use Rattle.ps_language.specs.Effect.{Around, Scene}
 use Rattle.ps_language.specs.Live.{asked_words}
 use Rattle.ps_language.specs.Locks.{is_ready}
@@ -15,8 +15,6 @@ use Rattle.ps_ctx.specs.declared.notes.Note.TheVariants.{Wishes}
 use Rattle.ps_ctx.specs.Calls.{IsHeldUpAs}
 use Rattle.ps_ctx.specs.Needs.{step_wants}
 use Rattle.ps_vault.specs.Stories.{Story, IsMemoryOf, LacksRoom, world_at}
-use Rattle.ps_vault.specs.declared.vaults.Told.{Told}
-use Rattle.ps_vault.specs.declared.vaults.Told.TheVariants.{HeldUp}
 
 -- the slot of the log that a context's records go into
 abbrev pub slot_of : (context : ℕ) → ℕ
@@ -34,14 +32,10 @@ pub record IsHeldUp {M : Type 0} (heap : M → Heap) (grants : M → Grants)
   pub held_up : IsHeldUpAs (step_wants asks context refused (world_at story)) (slot_of context)
       (heap memory) (grants memory) reason
 
--- whether steps were held up, and why
-abbrev pub is_held_up : Told → Bool
-is_held_up (HeldUp reason) = true
-is_held_up _ = false
-
-abbrev pub IfHeldUp : (NotMade → Type 0) → Told → Type 0
-IfHeldUp Why (HeldUp reason) = Why reason
-IfHeldUp Why _ = Unit {0}
+-- whether steps were held up
+abbrev pub is_held_up : Result Note NotMade → Bool
+is_held_up (Ok note) = false
+is_held_up (Err reason) = true
 
 -- where an unrefused step isn't made for want of room, it asks for so many words, and there is no
 -- room for what it asks for
@@ -54,6 +48,10 @@ IfForRoom refused story context reason = Unit {0}
 abbrev pub wish_in : Note → Option ℤ
 wish_in (Wishes number) = Some number
 wish_in _ = None
+
+abbrev pub wish_told : Result Note NotMade → Option ℤ
+wish_told (Ok note) = wish_in note
+wish_told (Err reason) = None
 
 -- a memory that grows, and logs that aren't closed and take as many records as a step may put
 pub record Grows (heap : Heap) (grants : Grants) : Type 0 where

@@ -8,7 +8,8 @@ use Rattle.ps_language.specs.Step.{stepped}
 use Rattle.ps_language.specs.World.{World}
 use Rattle.ps_language.specs.Worlds.{after_moves}
 use Rattle.ps_ctx.specs.Steps.{AllFrom}
-use Rattle.ps_vault.specs.declared.turns.Turn.{Turn}
+use Rattle.ps_vault.specs.declared.vaults.Advanced.{Advanced}
+use Rattle.ps_vault.specs.Holds.{is_held_up}
 
 -- ---- whose turn is next
 
@@ -165,7 +166,7 @@ IsTurnEnd quantum most made = (made < most) ⊎ (made % quantum ≡ 0)
 -- Such turns, and so many steps of one more: none but the last ended it. Where the next one was
 -- held up, it goes on; else it is over, or as many steps were made as were asked for, which are not
 -- those of whole turns
-pub record AddsTurns (quantum most : ℕ) (start : World) (context : ℕ) (turn : Turn)
+pub record AddsTurns (quantum most : ℕ) (start : World) (context : ℕ) (turn : Advanced)
     (old new : List Move) : Type 0 where
   pub whole : List Move
   pub turns : AddsWhole quantum start context old whole
@@ -173,9 +174,9 @@ pub record AddsTurns (quantum most : ℕ) (start : World) (context : ℕ) (turn 
   pub within : count ≤ quantum
   pub adds : AddsSteps context count whole new
   pub only_last : 1 ≤ count → OnlyLastMayEnd start whole new
-  pub goes_on : turn.held ≡ true → (count < quantum) × NoneEnds start whole new
-  pub some : turn.held ≡ false → 1 ≤ count
-  pub over : turn.held ≡ false → IsTurnEnd quantum most turn.made
+  pub goes_on : is_held_up turn.told ≡ true → (count < quantum) × NoneEnds start whole new
+  pub some : is_held_up turn.told ≡ false → 1 ≤ count
+  pub over : is_held_up turn.told ≡ false → IsTurnEnd quantum most turn.made
       → IsOver quantum start context count new
 
 -- behind all steps from the start it is the turn of this context: it is the next one, or has begun

@@ -3,15 +3,18 @@
 
 ghost use Rattle.std.specs.Prelude.{◌≡◌, ◌<◌, true, false, slice_index_or};
 ghost use Rattle.ps_core_laws.specs.Collected.{may_open, one_more_if, stopped};
-ghost use Rattle.ps_vault.specs.Cycles.{IsFull};
+ghost use Rattle.ps_core_laws.specs.Tries.{is_done};
+ghost use Rattle.ps_vault.specs.Cycles.{IsFull, IsTry};
 ghost use Rattle.ps_vault.specs.Stories.{UsesOnlyLive, with_closed, with_cycle, without_cycle};
 
 use crate::vaults::Vault;
-use ps_core_laws::Closing;
 use ps_core_laws::collected::{CollectedMemory, Counts};
 use ps_core_laws::sides::{Collects, LoggedMemory};
+use ps_core_laws::{Closing, Flip};
 use ps_ctx::deeds::Deeds;
-use ps_gc_roots::{RootList, end_cycle, hand_over, open_cycle, stop_all, try_flip};
+use ps_gc_roots::{
+    RootList, end_cycle, end_read, hand_over, hand_read, open_cycle, stop_all, try_flip,
+};
 use ps_mem::Slot;
 use ps_step_interpreter::interprets::Interpret;
 
@@ -56,15 +59,46 @@ impl<M: LoggedMemory + Drop, S: Interpret + Drop, D: Deeds + Drop> Vault<'_, M, 
     }
 
     /// Ends the open cycle by the flip, where all is ready for it: the objects move, and the roots
-    /// of all contexts are renamed. False: nothing has changed.
-    pub fn try_flip<C: Collects<M>>(&mut self, collector: &mut C, roots: &mut RootList) -> bool
+    /// of all contexts are renamed. Else those that were read for it are handed over to the
+    /// collector, and nothing else has changed.
+    pub fn flip_or_hand_over<C: Collects<M>>(
+        &mut self,
+        collector: &mut C,
+        roots: &mut RootList,
+    ) -> Flip
         requires open { self.old.cycle_open ≡ true }
-        ensures done { result ≡ true
+        ensures tried { IsTry M.heap M.grants M.did C.did C.answers result self.old self.new
+            collector.old collector.new }
+        ensures done { is_done result ≡ true
             → self.new ≡ without_cycle (one_more_if true) self.new.used self.old }
-        ensures same { result ≡ false → self.new ≡ self.old }
+        ensures same { is_done result ≡ false → self.new ≡ self.old }
     {
         let contexts = &mut self.world.contexts;
-        try_flip(&mut self.runtime, collector, contexts, roots)
+        match try_flip(&mut self.runtime, collector, contexts, roots) {
+            Flip::Done => Flip::Done,
+            Flip::NotReady(why) => {
+                hand_read(&mut self.runtime, collector, contexts, roots);
+                Flip::NotReady(why)
+            }
+        }
+    }
+
+    /// Ends the open cycle, by the flip where all is ready for it; else, by the roots that were read
+    /// for it, whatever is left to do.
+    pub fn flip_or_end<C: Collects<M>>(&mut self, collector: &mut C, roots: &mut RootList) -> Flip
+        requires open { self.old.cycle_open ≡ true }
+        ensures tried { IsTry M.heap M.grants M.did C.did C.answers result self.old self.new
+            collector.old collector.new }
+        ensures ended { self.new ≡ without_cycle (one_more_if true) self.new.used self.old }
+    {
+        let world = &mut self.world;
+        match try_flip(&mut self.runtime, collector, &mut world.contexts, roots) {
+            Flip::Done => Flip::Done,
+            Flip::NotReady(reason) => {
+                end_read(&mut self.runtime, collector, &mut world.contexts, roots);
+                Flip::NotReady(reason)
+            }
+        }
     }
 
     /// Ends the open cycle, whatever is left to do. False: no cycle was open.

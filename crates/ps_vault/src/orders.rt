@@ -3,16 +3,16 @@
 ghost use Rattle.std.specs.Prelude.{◌≡◌, ℕ, ◌+◌, ◌<◌, ◌≤◌, false, true, length, IfOk, IfSome, IfNone};
 ghost use Rattle.ps_language.specs.Locks as locks;
 ghost use Rattle.ps_language.specs.Schedules.{count_of, moves};
-ghost use Rattle.ps_vault.specs.Holds.{OnlyGrows};
+ghost use Rattle.ps_vault.specs.Holds.{OnlyGrows, is_held_up};
 ghost use Rattle.ps_vault.specs.Order.{IsNoneAbove};
 ghost use Rattle.ps_vault.specs.Reports.{are_ordinary, IsBounded, IsOneStarved, IsRunOf};
 ghost use Rattle.ps_vault.specs.Stories.{AreWarranted, kept_of, world_at};
 
 use crate::jobs::Task;
 use crate::reports::{Budget, Report, Room};
-use crate::turns::Turn;
-use crate::vaults::Vault;
+use crate::vaults::{Advanced, Vault};
 use ps_ctx::deeds::Deeds;
+use ps_ctx::notes::Note;
 use ps_mem::Memory;
 use ps_mem::marked::plain_with_marks;
 use ps_step_interpreter::interprets::Interpret;
@@ -70,7 +70,7 @@ impl<M: Memory + Drop, S: Interpret + Drop, D: Deeds + Drop> Vault<'_, M, S, D> 
     }
 
     /// Runs contexts for at most so many steps, turn by turn as they are chosen.
-    fn run_by<O: TurnOrder>(&mut self, steps: u32, order: &mut O) -> Turn
+    fn run_by<O: TurnOrder>(&mut self, steps: u32, order: &mut O) -> Advanced
         requires calling { self.old.caller ≡ None }
         ensures program { self.new.program ≡ self.old.program }
         ensures most { self.new.most ≡ self.old.most }
@@ -81,27 +81,33 @@ impl<M: Memory + Drop, S: Interpret + Drop, D: Deeds + Drop> Vault<'_, M, S, D> 
         ensures warranted { AreWarranted self.old → AreWarranted self.new }
         ensures space { self.new.space ≡ self.old.space }
         ensures capacity { self.old.capacity ≤ self.new.capacity }
-        ensures calling_on { result.held ≡ false → self.new.caller ≡ None }
-        ensures fewer { result.held ≡ true → result.made < steps }
-        ensures starved { OnlyGrows M.heap M.grants → result.held ≡ true
+        ensures calling_on { is_held_up result.told ≡ false → self.new.caller ≡ None }
+        ensures fewer { is_held_up result.told ≡ true → result.made < steps }
+        ensures starved { OnlyGrows M.heap M.grants → is_held_up result.told ≡ true
             → IsOneStarved S.asks true (world_at self.new) (kept_of self.new) }
-        ensures ended { result.held ≡ false → result.made < steps
+        ensures ended { is_held_up result.told ≡ false → result.made < steps
             → IsNoneAbove (world_at self.new) 0 }
     {
         let mut made = 0;
         while made < steps {
             let choice = order.choose();
             let Some(next) = self.ready_behind(choice.passed) else {
-                return Turn { made, held: false };
+                return Advanced {
+                    made,
+                    told: Ok(Note::Nothing),
+                };
             };
             let most = choice.steps.min(steps - made);
             let turn = self.turns(next, most, most);
             made += turn.made;
-            if turn.held {
-                return Turn { made, held: true };
+            if turn.is_held_up() {
+                return Advanced { made, ..turn };
             }
         }
-        Turn { made, held: false }
+        Advanced {
+            made,
+            told: Ok(Note::Nothing),
+        }
     }
 }
 

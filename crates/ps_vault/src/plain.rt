@@ -4,6 +4,7 @@ ghost use Rattle.std.specs.Prelude.{◌≡◌, ◌<◌, ◌≤◌, ℕ, ◌↔�
 ghost use Rattle.ps_language.specs.Schedules.{count_of, moves};
 ghost use Rattle.ps_language.specs.Worlds.{starting_world, world};
 ghost use Rattle.ps_mem.specs.Plain.{plain_space};
+ghost use Rattle.ps_vault.specs.Holds.{is_held_up};
 ghost use Rattle.ps_vault.specs.Order.{HasTurn, InOrder, IsNoneAbove};
 ghost use Rattle.ps_vault.specs.declared.reports.TheConstants.{FIRST_ENTRIES};
 ghost use Rattle.ps_vault.specs.Reports.{are_ordinary, is_memory, IsOneStarved, IsRunOf, IsStarved, IsWithin, WithBudget, IsBounded, bounds_of};
@@ -13,8 +14,7 @@ ghost use Rattle.ps_vault.specs.Stories.{AreWarranted, kept_of, world_at};
 use crate::jobs::Job;
 use crate::reports::{Config, Outcome, Report, Room, RunFault};
 use crate::screens::{NoViewer, Screen, Viewer};
-use crate::turns::Turn;
-use crate::vaults::Vault;
+use crate::vaults::{Advanced, Vault};
 use ps_core_laws::collected::Counts;
 use ps_ctx::deeds::Deeds;
 use ps_mem::Memory;
@@ -53,7 +53,7 @@ pub fn run_plain<S: Interpret + Drop, D: Deeds + Drop>(
 }
 
 /// The budget of a run: so many steps, or, where its viewer failed, those that were made.
-fn budget_of(run: Turn, failed: bool, steps: u32) -> u32
+fn budget_of(run: Advanced, failed: bool, steps: u32) -> u32
     ensures { result ≡ (if failed then run.made else steps) }
 {
     if failed {
@@ -106,27 +106,28 @@ pub fn run_plain_shown<S: Interpret + Drop, D: Deeds + Drop, V: Viewer + Drop>(
 impl<M: Memory + Drop, S: Interpret + Drop, D: Deeds + Drop> Vault<'_, M, S, D> {
     /// The report of a run that had no steps before, with a budget: where none was held up either
     /// all steps were made, or no context is ready.
-    pub fn into_run(mut self, run: Turn, steps: u32) -> Report
+    pub fn into_run(mut self, run: Advanced, steps: u32) -> Report
         requires counted { count_of self.schedule ≡ run.made }
         requires within { run.made ≤ steps }
         requires ordinary { are_ordinary (moves self.schedule) ≡ true }
         requires warranted { AreWarranted self }
         requires space { self.space ≡ plain_space.size }
         requires room { FIRST_ENTRIES ≤ self.capacity }
-        requires calling { run.held ≡ false → self.caller ≡ None }
-        requires fewer { run.held ≡ true → run.made < steps }
-        requires starved { run.held ≡ true
+        requires calling { is_held_up run.told ≡ false → self.caller ≡ None }
+        requires fewer { is_held_up run.told ≡ true → run.made < steps }
+        requires starved { is_held_up run.told ≡ true
             → IsOneStarved S.asks true (world_at self) (kept_of self) }
-        requires ended { run.held ≡ false → run.made < steps → IsNoneAbove (world_at self) 0 }
+        requires ended { is_held_up run.told ≡ false → run.made < steps
+            → IsNoneAbove (world_at self) 0 }
         ensures run { IsRunOf S.asks self.entry.program steps result }
         ensures bounded { IsBounded self.entry.most result }
         ensures schedule { result.schedule ≡ kept_of self.entry }
-        ensures memory { is_memory result.outcome ≡ run.held }
+        ensures memory { is_memory result.outcome ≡ is_held_up run.told }
         ensures flips { result.flips ≡ 0 }
         ensures taken { result.taken ≡ 0 }
     {
         let counts = Counts { flips: 0, taken: 0 };
-        if run.held {
+        if run.is_held_up() {
             return self.into_report(steps, Outcome::Memory, counts);
         }
         let outcome = self.outcome(run.made == steps);

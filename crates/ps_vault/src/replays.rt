@@ -7,6 +7,7 @@ ghost use Rattle.ps_language.specs.Schedules.{last_move, plain_move, moves_of, m
 ghost use Rattle.ps_language.specs.Worlds as worlds;
 ghost use Rattle.ps_language.specs.Worlds.{after_moves};
 ghost use Rattle.ps_run_schedules.specs.Turns.{added_times};
+ghost use Rattle.ps_vault.specs.Holds.{is_held_up};
 ghost use Rattle.ps_vault.specs.Reports.{EndsAs, IsCutOf, IsReplayOf, MayWant, MayWantNext, UnderPart, entry_of, is_memory};
 ghost use Rattle.ps_vault.specs.Screens.{HasShown, ShowsOn};
 ghost use Rattle.ps_vault.specs.Stories.{world_at};
@@ -15,9 +16,9 @@ use crate::jobs::Task;
 use crate::reports::{Outcome, Report, Room, RunFault};
 use crate::schedules::is_ordinary;
 use crate::screens::{NoViewer, Screen, Viewer};
-use crate::turns::Turn;
-use crate::vaults::{Told, Vault};
+use crate::vaults::{Advanced, Vault};
 use ps_ctx::deeds::Deeds;
+use ps_ctx::notes::Note;
 use ps_language::schedules::Entry;
 use ps_mem::marked::{Marked, plain_with_marks};
 use ps_mem::plain::PlainMemory;
@@ -37,7 +38,7 @@ fn steps<S: Interpret + Drop, D: Deeds + Drop, V: Viewer + Drop>(
     context: u32,
     most: u32,
     screen: &mut Screen<V>,
-) -> Turn
+) -> Advanced
     requires calling { vault.old.caller ≡ None }
     requires room { length vault.old.schedule + 3 ≤ vault.old.capacity }
     requires few { length vault.old.schedule + 3 ≤ vault.old.most.entries }
@@ -52,15 +53,16 @@ fn steps<S: Interpret + Drop, D: Deeds + Drop, V: Viewer + Drop>(
     ensures world { world_at vault.new
         ≡ after_moves (world_at vault.old) (replicate result.made (plain_move context)) }
     ensures capacity { vault.old.capacity ≤ vault.new.capacity }
-    ensures calling_on { result.held ≡ false → vault.new.caller ≡ None }
-    ensures unready { result.held ≡ false → result.made < most → screen.new.failed ≡ false
-        → locks.is_ready (world_at vault.new) context ≡ false }
-    ensures fewer { result.held ≡ true → result.made < most }
-    ensures starved { result.held ≡ true → MayWant S.asks true context false (world_at vault.new) }
+    ensures calling_on { is_held_up result.told ≡ false → vault.new.caller ≡ None }
+    ensures unready { is_held_up result.told ≡ false → result.made < most
+        → screen.new.failed ≡ false → locks.is_ready (world_at vault.new) context ≡ false }
+    ensures fewer { is_held_up result.told ≡ true → result.made < most }
+    ensures starved { is_held_up result.told ≡ true
+        → MayWant S.asks true context false (world_at vault.new) }
     ensures fits { screen.new.shown ≤ length (world_at vault.new).printed }
     ensures shown { ShowsOn screen.old (world_at vault.old).printed screen.new
         (world_at vault.new).printed }
-    ensures cut { screen.new.failed ≡ true → result.held ≡ false }
+    ensures cut { screen.new.failed ≡ true → is_held_up result.told ≡ false }
     ensures still { screen.old.watching ≡ false → screen.new ≡ screen.old }
 {
     let mut made = 0;
@@ -68,14 +70,23 @@ fn steps<S: Interpret + Drop, D: Deeds + Drop, V: Viewer + Drop>(
         let advanced = vault.advance(context, UNSEEN_STEPS.min(most - made), false);
         made += advanced.made;
         match advanced.told {
-            Told::Goes | Told::TurnEnds => {}
-            Told::HeldUp(_) => return Turn { made, held: true },
+            Ok(_) => {}
+            Err(reason) => return Advanced {
+                made,
+                told: Err(reason),
+            },
         }
         if !vault.show_printed(screen) {
-            return Turn { made, held: false };
+            return Advanced {
+                made,
+                told: Ok(Note::Nothing),
+            };
         }
     }
-    Turn { made, held: false }
+    Advanced {
+        made,
+        told: Ok(Note::Nothing),
+    }
 }
 
 /// Makes the steps of an entry that are all ordinary ones, as far as memory goes and the viewer can
@@ -112,7 +123,7 @@ fn follow_ordinary<S: Interpret + Drop, D: Deeds + Drop, V: Viewer + Drop>(
     ensures still { screen.old.watching ≡ false → screen.new ≡ screen.old }
 {
     let turn = steps(vault, entry.context, entry.steps, screen);
-    if turn.held || screen.has_failed() {
+    if turn.is_held_up() || screen.has_failed() {
         return turn.made;
     }
     entry.steps
@@ -159,7 +170,7 @@ fn follow_entry<S: Interpret + Drop, D: Deeds + Drop, V: Viewer + Drop>(
     }
     let ordinary = entry.steps - 1;
     let before = steps(vault, entry.context, ordinary, screen);
-    if before.held || screen.has_failed() {
+    if before.is_held_up() || screen.has_failed() {
         return before.made;
     }
     if !vault.is_ready(entry.context) {

@@ -3,7 +3,7 @@
 ghost use Rattle.std.specs.Prelude.{◌≡◌, ◌+◌, ◌<◌, ◌≤◌, ◌↔◌, true, false, Err, IfOk, IfSome, IfNone, length};
 ghost use Rattle.ps_language.specs.Locks as locks;
 ghost use Rattle.ps_language.specs.Schedules.{count_of, moves};
-ghost use Rattle.ps_vault.specs.Holds.{OnlyGrows};
+ghost use Rattle.ps_vault.specs.Holds.{OnlyGrows, is_held_up};
 ghost use Rattle.ps_vault.specs.Order.{IsNoneAbove};
 ghost use Rattle.ps_vault.specs.Reports.{are_ordinary, IsOneStarved, IsRunOf, IsWithin, IsBounded, bounds_of};
 ghost use Rattle.ps_vault.specs.Stories.{AreWarranted, kept_of, world_at};
@@ -11,9 +11,9 @@ ghost use Rattle.ps_vault.specs.Stories.{AreWarranted, kept_of, world_at};
 use crate::guides::Guide;
 use crate::jobs::Job;
 use crate::reports::{Config, Report, Room, RunFault};
-use crate::turns::Turn;
-use crate::vaults::Vault;
+use crate::vaults::{Advanced, Vault};
 use ps_ctx::deeds::Deeds;
+use ps_ctx::notes::Note;
 use ps_language::schedules::Entry;
 use ps_mem::Memory;
 use ps_mem::marked::plain_with_marks;
@@ -67,7 +67,7 @@ impl<M: Memory + Drop, S: Interpret + Drop, D: Deeds + Drop> Vault<'_, M, S, D> 
 
     /// Runs contexts for at most so many steps, by turns of at most a quantum: in the order of a
     /// schedule, as far as its steps can be made, and then by rising identifier and going round.
-    fn run_behind(&mut self, steps: u32, quantum: u32, given: &[Entry]) -> Turn
+    fn run_behind(&mut self, steps: u32, quantum: u32, given: &[Entry]) -> Advanced
         requires calling { self.old.caller ≡ None }
         requires quantum { 1 ≤ quantum }
         ensures program { self.new.program ≡ self.old.program }
@@ -79,27 +79,33 @@ impl<M: Memory + Drop, S: Interpret + Drop, D: Deeds + Drop> Vault<'_, M, S, D> 
         ensures warranted { AreWarranted self.old → AreWarranted self.new }
         ensures space { self.new.space ≡ self.old.space }
         ensures capacity { self.old.capacity ≤ self.new.capacity }
-        ensures calling_on { result.held ≡ false → self.new.caller ≡ None }
-        ensures fewer { result.held ≡ true → result.made < steps }
-        ensures starved { OnlyGrows M.heap M.grants → result.held ≡ true
+        ensures calling_on { is_held_up result.told ≡ false → self.new.caller ≡ None }
+        ensures fewer { is_held_up result.told ≡ true → result.made < steps }
+        ensures starved { OnlyGrows M.heap M.grants → is_held_up result.told ≡ true
             → IsOneStarved S.asks true (world_at self.new) (kept_of self.new) }
-        ensures ended { result.held ≡ false → result.made < steps
+        ensures ended { is_held_up result.told ≡ false → result.made < steps
             → IsNoneAbove (world_at self.new) 0 }
     {
         let mut guide = Guide::new(given);
         let (mut made, mut after) = (0, 0);
         while made < steps {
             let Some((next, most)) = self.next_by(&mut guide, after) else {
-                return Turn { made, held: false };
+                return Advanced {
+                    made,
+                    told: Ok(Note::Nothing),
+                };
             };
             let turn = self.turns(next, quantum, most.min(steps - made));
             made += turn.made;
-            if turn.held {
-                return Turn { made, held: true };
+            if turn.is_held_up() {
+                return Advanced { made, ..turn };
             }
             guide.pass(turn.made);
             after = next;
         }
-        Turn { made, held: false }
+        Advanced {
+            made,
+            told: Ok(Note::Nothing),
+        }
     }
 }

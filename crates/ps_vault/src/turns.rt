@@ -4,24 +4,19 @@ ghost use Rattle.std.specs.Prelude.{◌≡◌, ℕ, ◌+◌, ◌%◌, ◌<◌, �
 ghost use Rattle.ps_language.specs.Locks as locks;
 ghost use Rattle.ps_language.specs.Schedules.{count_of, moves};
 ghost use Rattle.ps_language.specs.Worlds.{starting_world};
-ghost use Rattle.ps_vault.specs.Holds.{OnlyGrows};
+ghost use Rattle.ps_vault.specs.Holds.{OnlyGrows, is_held_up};
 ghost use Rattle.ps_vault.specs.Order.{IsNoneAbove, IsLeastAbove, AddsTurns, HasTurn, InOrder};
 ghost use Rattle.ps_vault.specs.Reports.{are_ordinary, IsStarved, IsOneStarved};
 ghost use Rattle.ps_vault.specs.Screens.{ShowsOn};
 ghost use Rattle.ps_vault.specs.Stories.{AreWarranted, kept_of, world_at};
 
 use crate::screens::{Screen, Viewer};
-use crate::vaults::{Told, Vault};
+use crate::vaults::{Advanced, Vault};
 use ps_ctx::deeds::Deeds;
+use ps_ctx::notes::Note;
 use ps_mem::Memory;
+use ps_ops_operands::failure::NotMade;
 use ps_step_interpreter::interprets::Interpret;
-
-/// The steps of a turn, or of a run, and whether the next one was held up.
-#[derive(Clone, Copy, Debug, PartialEq, Eq)]
-pub struct Turn {
-    pub made: u32,
-    pub held: bool,
-}
 
 /// Of so many steps, made in turns of a quantum each, how many the last turn has that isn't full.
 /// Of one turn alone it is told without a division.
@@ -45,7 +40,7 @@ impl<M: Memory + Drop, S: Interpret + Drop, D: Deeds + Drop> Vault<'_, M, S, D> 
     /// left it goes on with the next turns, for at most so many steps. Held up: fewer; over a
     /// memory that only grows the next may want a growth, or the schedule has no room for it.
     #[inline(always)]
-    pub fn turns(&mut self, context: u32, quantum: u32, most: u32) -> Turn
+    pub fn turns(&mut self, context: u32, quantum: u32, most: u32) -> Advanced
         requires calling { self.old.caller ≡ None }
         requires ready { locks.is_ready (world_at self.old) context ≡ true }
         requires quantum { 1 ≤ quantum }
@@ -53,7 +48,7 @@ impl<M: Memory + Drop, S: Interpret + Drop, D: Deeds + Drop> Vault<'_, M, S, D> 
         ensures program { self.new.program ≡ self.old.program }
         ensures most { self.new.most ≡ self.old.most }
         ensures within { result.made ≤ most }
-        ensures some { result.held ≡ false → 1 ≤ result.made }
+        ensures some { is_held_up result.told ≡ false → 1 ≤ result.made }
         ensures counted { count_of self.new.schedule ≡ count_of self.old.schedule + result.made }
         ensures ordinary { are_ordinary (moves self.old.schedule) ≡ true
             → are_ordinary (moves self.new.schedule) ≡ true }
@@ -62,31 +57,41 @@ impl<M: Memory + Drop, S: Interpret + Drop, D: Deeds + Drop> Vault<'_, M, S, D> 
         ensures capacity { self.old.capacity ≤ self.new.capacity }
         ensures turns { AddsTurns quantum most (starting_world self.old.program) context result
             (moves self.old.schedule) (moves self.new.schedule) }
-        ensures calling_on { result.held ≡ false → self.new.caller ≡ None }
-        ensures fewer { result.held ≡ true → result.made < most }
-        ensures starved { OnlyGrows M.heap M.grants → result.held ≡ true
+        ensures calling_on { is_held_up result.told ≡ false → self.new.caller ≡ None }
+        ensures fewer { is_held_up result.told ≡ true → result.made < most }
+        ensures starved { OnlyGrows M.heap M.grants → is_held_up result.told ≡ true
             → IsStarved S.asks true context false (world_at self.new) (kept_of self.new) }
     {
         let mut made = 0;
         let mut begun = 0;
         loop {
             if self.reserve_entries(context).is_err() {
-                return Turn { made, held: true };
+                return Advanced {
+                    made,
+                    told: Err(NotMade::Memory),
+                };
             }
             let goal = self.at_once(quantum - begun, most - made);
             let advanced = self.advance(context, goal, true);
             made += advanced.made;
+            let so_far = Advanced {
+                made,
+                told: Ok(Note::Nothing),
+            };
             match advanced.told {
-                Told::Goes => {}
-                Told::TurnEnds => return Turn { made, held: false },
-                Told::HeldUp(_) => return Turn { made, held: true },
+                Ok(Note::TurnEnds) => return so_far,
+                Ok(_) => {}
+                Err(reason) => return Advanced {
+                    made,
+                    told: Err(reason),
+                },
             }
             begun = begun_of(made, quantum);
             if begun == 0 || made == most {
-                return Turn { made, held: false };
+                return so_far;
             }
             if !self.is_ready(context) {
-                return Turn { made, held: false };
+                return so_far;
             }
         }
     }
@@ -117,7 +122,7 @@ impl<M: Memory + Drop, S: Interpret + Drop, D: Deeds + Drop> Vault<'_, M, S, D> 
         steps: u32,
         quantum: u32,
         screen: &mut Screen<V>,
-    ) -> Turn
+    ) -> Advanced
         requires calling { self.old.caller ≡ None }
         requires quantum { 1 ≤ quantum }
         requires fits { screen.old.shown ≤ length (world_at self.old).printed }
@@ -133,19 +138,19 @@ impl<M: Memory + Drop, S: Interpret + Drop, D: Deeds + Drop> Vault<'_, M, S, D> 
         ensures capacity { self.old.capacity ≤ self.new.capacity }
         ensures order { moves self.old.schedule ≡ []
             → InOrder quantum (starting_world self.old.program) (moves self.new.schedule) }
-        ensures calling_on { result.held ≡ false → self.new.caller ≡ None }
-        ensures fewer { result.held ≡ true → result.made < steps }
-        ensures starved { OnlyGrows M.heap M.grants → result.held ≡ true
+        ensures calling_on { is_held_up result.told ≡ false → self.new.caller ≡ None }
+        ensures fewer { is_held_up result.told ≡ true → result.made < steps }
+        ensures starved { OnlyGrows M.heap M.grants → is_held_up result.told ≡ true
             → IsOneStarved S.asks true (world_at self.new) (kept_of self.new) }
-        ensures owed { OnlyGrows M.heap M.grants → result.held ≡ true
+        ensures owed { OnlyGrows M.heap M.grants → is_held_up result.told ≡ true
             → moves self.old.schedule ≡ [] → (context : ℕ)
             × HasTurn quantum (starting_world self.old.program) context (moves self.new.schedule)
             × IsStarved S.asks true context false (world_at self.new) (kept_of self.new) }
-        ensures ended { result.held ≡ false → result.made < steps → screen.new.failed ≡ false
-            → IsNoneAbove (world_at self.new) 0 }
+        ensures ended { is_held_up result.told ≡ false → result.made < steps
+            → screen.new.failed ≡ false → IsNoneAbove (world_at self.new) 0 }
         ensures shown { ShowsOn screen.old (world_at self.old).printed screen.new
             (world_at self.new).printed }
-        ensures cut { screen.new.failed ≡ true → result.held ≡ false }
+        ensures cut { screen.new.failed ≡ true → is_held_up result.told ≡ false }
         ensures still { screen.old.watching ≡ false → screen.new ≡ screen.old }
     {
         let mut made = 0;
@@ -153,7 +158,10 @@ impl<M: Memory + Drop, S: Interpret + Drop, D: Deeds + Drop> Vault<'_, M, S, D> 
         while made < steps {
             let Some(next) = self.next_ready(after) else {
                 if after == 0 {
-                    return Turn { made, held: false };
+                    return Advanced {
+                        made,
+                        told: Ok(Note::Nothing),
+                    };
                 }
                 after = 0;
                 continue;
@@ -161,14 +169,20 @@ impl<M: Memory + Drop, S: Interpret + Drop, D: Deeds + Drop> Vault<'_, M, S, D> 
             let most = screen.most_unseen(quantum, steps - made);
             let turn = self.turns(next, quantum, most);
             made += turn.made;
-            if turn.held {
-                return Turn { made, held: true };
+            if turn.is_held_up() {
+                return Advanced { made, ..turn };
             }
             if !self.show_printed(screen) {
-                return Turn { made, held: false };
+                return Advanced {
+                    made,
+                    told: Ok(Note::Nothing),
+                };
             }
             after = next;
         }
-        Turn { made, held: false }
+        Advanced {
+            made,
+            told: Ok(Note::Nothing),
+        }
     }
 }

@@ -1,7 +1,7 @@
 //! All contexts and their memory, with the program and the schedule that they stand for: after
 //! each call they are at the world of that program and that schedule, whatever the memory is.
 
-ghost use Rattle.std.specs.Prelude.{◌≡◌, ◌≢◌, ◌↔◌, ◌+◌, ◌/◌, ◌<◌, ◌≤◌, ℕ, ℤ, false, true, Bool, OnOk, OnErr, IfOk, IfErr, IfSome, IfNone, IsTrue, Option, None, IsSome, [], ◌==◌, ◌⊎◌, min, not, nat_eq, length, if◌then◌else◌};
+ghost use Rattle.std.specs.Prelude.{◌≡◌, ◌≢◌, ◌↔◌, ◌+◌, ◌/◌, ◌<◌, ◌≤◌, ℕ, ℤ, false, true, Bool, Ok, OnOk, OnErr, IfOk, IfErr, IfSome, IfNone, IsTrue, Option, None, IsSome, [], ◌==◌, ◌⊎◌, min, not, nat_eq, length, if◌then◌else◌};
 ghost use Rattle.ps_language.specs.Contexts.{count_not_ended};
 ghost use Rattle.ps_language.specs.Locks as locks;
 ghost use Rattle.ps_language.specs.Schedules.{added, count_of, moves, plain_move};
@@ -12,7 +12,7 @@ ghost use Rattle.ps_vault.specs.Order.{IsNoneAbove, IsOnlyLeft, AddsSteps, AllOf
 ghost use Rattle.ps_mem.specs.Heap.{Space};
 ghost use Rattle.ps_ctx_start.specs.Starts.{IsEmptyHeap};
 ghost use Rattle.ps_vault.specs.Holds as holds;
-ghost use Rattle.ps_vault.specs.Holds.{IfForRoom, IfHeldUp, IsHeldUp, is_held_up, wish_in};
+ghost use Rattle.ps_vault.specs.Holds.{IfForRoom, IsHeldUp, is_held_up, wish_in, wish_told};
 ghost use Rattle.ps_vault.specs.Reports.{all_fit, are_ordinary, are_words, is_memory, EndsAs, IsBounded, IsOneStarved, IsRunIn, IsShort};
 ghost use Rattle.ps_vault.specs.declared.reports.TheConstants.{FIRST_ENTRIES};
 ghost use Rattle.ps_vault.specs.Stories.{Story, HasRoom, MayGo, AreWarranted, kept_of, world_at};
@@ -79,37 +79,26 @@ impl<'a, M: Memory + Drop, S: Interpret + Drop, D: Deeds + Drop> Model for Vault
         v.world.calling) v.schedule.items };
 }
 
-/// What steps of a context came to.
-#[derive(Clone, Copy, Debug, PartialEq, Eq)]
-pub enum Told {
-    /// It may go on.
-    Goes,
-    /// Its turn ends.
-    TurnEnds,
-    /// The next one was held up.
-    HeldUp(NotMade),
-}
-
-impl Told {
-    /// What a step came to that was made.
-    fn of(note: Note) -> Told
-        ensures made { is_held_up result ≡ false }
-        ensures ends { (result ≡ Told.TurnEnds) ↔ (note ≡ Note.TurnEnds) }
-    {
-        match note {
-            Note::TurnEnds => Told::TurnEnds,
-            Note::Nothing | Note::ShowsMemory | Note::Wishes(_) => Told::Goes,
-        }
-    }
-}
-
-/// Steps that were made, and what they came to.
+/// What steps came to, and how many were made.
 #[derive(Clone, Copy, Debug, PartialEq, Eq)]
 pub struct Advanced {
     pub made: u32,
-    pub told: Told,
-    /// The number of the `vmreclaim` that the last step was, if it was one.
-    pub wish: Option<i32>,
+    /// What the last one tells, if that is of use to who asked for them; or why the next one was
+    /// held up.
+    pub told: Result<Note, NotMade>,
+}
+
+impl Advanced {
+    /// Whether the next one was held up.
+    #[inline]
+    pub fn is_held_up(self) -> bool
+        ensures { result ≡ is_held_up self.told }
+    {
+        match self.told {
+            Ok(_) => false,
+            Err(_) => true,
+        }
+    }
 }
 
 /// The slot of the log that the records of a context's steps go into: its identifier modulo 32. At
@@ -123,7 +112,7 @@ fn slot_of(context: u32) -> Slot
 }
 
 /// The number of the `vmreclaim` that was made, if it was one.
-fn wish_of(note: Note) -> Option<i32>
+pub fn wish_of(note: Note) -> Option<i32>
     ensures { result ≡ wish_in note }
 {
     match note {
@@ -337,13 +326,13 @@ impl<M: Memory + Drop, S: Interpret + Drop, D: Deeds + Drop> Vault<'_, M, S, D> 
             (moves self.new.schedule) }
         ensures takes { AddsSteps context result.made (moves self.old.schedule)
             (moves self.new.schedule) }
-        ensures keeps { result.told ≢ Told.TurnEnds → NoneEnds
+        ensures keeps { result.told ≢ Ok Note.TurnEnds → NoneEnds
             (starting_world self.old.program) (moves self.old.schedule) (moves self.new.schedule) }
-        ensures ends { result.told ≡ Told.TurnEnds → EndsTurn
+        ensures ends { result.told ≡ Ok Note.TurnEnds → EndsTurn
             (starting_world self.old.program) context (moves self.new.schedule) }
-        ensures only_last { result.told ≡ Told.TurnEnds → OnlyLastMayEnd
+        ensures only_last { result.told ≡ Ok Note.TurnEnds → OnlyLastMayEnd
             (starting_world self.old.program) (moves self.old.schedule) (moves self.new.schedule) }
-        ensures wish { WishesAs result.wish (starting_world self.old.program) context
+        ensures wish { WishesAs (wish_told result.told) (starting_world self.old.program) context
             (moves self.old.schedule) (moves self.new.schedule) }
         ensures alone { IsOnlyLeft (world_at self.old) context → AllOfOne context
             (starting_world self.old.program) (moves self.old.schedule) (moves self.new.schedule) }
@@ -357,9 +346,9 @@ impl<M: Memory + Drop, S: Interpret + Drop, D: Deeds + Drop> Vault<'_, M, S, D> 
         ensures flips { self.new.flips ≡ self.old.flips }
         ensures calling { MayGo self.new context }
         ensures calling_on { is_held_up result.told ≡ false → self.new.caller ≡ None }
-        ensures held_up { IfHeldUp
-            (IsHeldUp M.heap M.grants S.asks context false self.new) result.told }
-        ensures room { IfHeldUp (IfForRoom false self.new context) result.told }
+        ensures held_up { IfErr result.told
+            (IsHeldUp M.heap M.grants S.asks context false self.new) }
+        ensures room { IfErr result.told (IfForRoom false self.new context) }
     {
         let most = most.min(self.schedule.free_steps(context));
         let Batch { made, next } = self.world.go_on(
@@ -371,29 +360,26 @@ impl<M: Memory + Drop, S: Interpret + Drop, D: Deeds + Drop> Vault<'_, M, S, D> 
             shows,
         );
         self.schedule.note_turn(context, made);
-        let Some(next) = next else {
+        let Some((told, shown)) = next else {
             return Advanced {
                 made,
-                told: Told::Goes,
-                wish: None,
+                told: Ok(Note::Nothing),
             };
         };
-        let told = match next.told {
-            Ok(told) => told,
+        let note = match told {
+            Ok(note) => note,
             Err(reason) => {
                 return Advanced {
                     made,
-                    told: Told::HeldUp(reason),
-                    wish: None,
+                    told: Err(reason),
                 };
             }
         };
-        let kept = kept(told, next.shown);
+        let kept = kept(note, shown);
         self.schedule.note(context, false, kept);
         Advanced {
             made: made + 1,
-            told: Told::of(told),
-            wish: wish_of(told),
+            told: Ok(note),
         }
     }
 

@@ -11,8 +11,8 @@ use Rattle.ps_language.specs.declared.access.Access.{Access}
 use Rattle.ps_language.specs.declared.access.Access.TheVariants.{Unlimited, ReadOnly, ExecuteOnly, NoAccess}
 use Rattle.ps_language.specs.declared.operators.Operator.{Operator as OperatorName}
 use Rattle.ps_language.specs.declared.operators.Operator.TheVariants.{Pop}
-use Rattle.ps_language.specs.OperatorList.{every_operator}
-use Rattle.ps_word.specs.OperatorNumbers.{operator_number}
+use Rattle.ps_language.specs.Operators.{every_operator, operator_number}
+use Rattle.ps_language.proofs.Numbers.{operator_at-number, operator_number-below}
 use Rattle.ps_word.specs.declared.values.Part.{Part}
 use Rattle.ps_word.specs.declared.values.Content.{Content}
 use Rattle.ps_word.specs.declared.values.Content.TheVariants.{Null, Integer, Boolean, Mark, Name, Operator, Array, Text}
@@ -21,19 +21,6 @@ use Rattle.ps_word.specs.declared.values.Value.{Value}
 use Rattle.ps_word.specs.Format.{type_number, access_number, bit_of, part_bits, content_bits, packed, IsPart, IsContent}
 use Rattle.ps_word.specs.Format.{IsInFormat, access_of, address_in, part_in, content_of, content_in, executable_in}
 use Rattle.ps_word.specs.Format.{value_in, IsWord}
-
--- ---- operators
-
-pub operator_at-number : (o : OperatorName) → slice_index_or every_operator (operator_number o) Pop ≡ o
-operator_at-number Pop = refl
-operator_at-number _ = refl
-
-pub operator_number-below : (o : OperatorName) → operator_number o < 99
-operator_number-below Pop = omega arith
-operator_number-below _ = omega arith
-
-pub operator_past : (n : ℕ) → 99 ≤ n → Pop ≡ slice_index_or every_operator n Pop
-operator_past n h = sym (get_or_past every_operator n Pop h)
 
 -- ---- accesses and bits
 

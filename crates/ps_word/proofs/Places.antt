@@ -7,14 +7,15 @@ use Rattle.ps_word.specs.declared.values.Content.{Content}
 use Rattle.std.specs.Prelude.{slice_index_or}
 use Rattle.ps_language.specs.declared.operators.Operator.{Operator as OperatorName}
 use Rattle.ps_language.specs.declared.operators.Operator.TheVariants.{Pop}
-use Rattle.ps_language.specs.OperatorList.{every_operator}
+use Rattle.ps_language.specs.Operators.{every_operator}
 use Rattle.ps_word.specs.declared.values.Content.TheVariants.{Null, Operator}
 use Rattle.ps_word.specs.Format.{type_number, bit_of, content_bits, packed, IsContent, is_body, address_in, content_of}
 use Rattle.ps_word.specs.Format.{content_in, executable_in, IsWord}
 use Rattle.ps_word.specs.Readers.{is_null, is_mark, as_integer, as_boolean, as_name, as_operator, as_array, as_text}
 use Rattle.ps_word.specs.Readers.{as_dictionary, as_lock, as_condition, as_body, as_part, address_of, kind_of}
 use Rattle.ps_word.specs.Readers.{is_reference}
-use Rattle.ps_word.proofs.Packing.{operator_number-below, content_bits-below, type-of_sum, low-of_sum}
+use Rattle.ps_language.proofs.Numbers.{operator_number-below}
+use Rattle.ps_word.proofs.Packing.{content_bits-below, type-of_sum, low-of_sum}
 
 -- ---- by the type
 

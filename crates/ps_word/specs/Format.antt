@@ -7,8 +7,8 @@ use Rattle.ps_language.specs.declared.access.Access.{Access}
 use Rattle.ps_language.specs.declared.access.Access.TheVariants.{Unlimited, ReadOnly, ExecuteOnly}
 use Rattle.ps_language.specs.declared.access.Access.TheVariants.{NoAccess}
 use Rattle.ps_language.specs.declared.operators.Operator.TheVariants.{Pop}
-use Rattle.ps_language.specs.OperatorList.{every_operator}
-use Rattle.ps_word.specs.OperatorNumbers.{operator_number}
+use Rattle.ps_language.specs.Operators.{every_operator}
+use Rattle.ps_language.specs.Operators.{operator_number}
 use Rattle.ps_word.specs.declared.values.Part.{Part}
 use Rattle.ps_word.specs.declared.values.Content.{Content}
 use Rattle.ps_word.specs.declared.values.Content.TheVariants.{Null, Integer, Boolean, Mark, Name}

@@ -1,4 +1,3 @@
 pub mod Format
 pub mod Headers
-pub mod OperatorNumbers
 pub mod Readers

@@ -5,8 +5,8 @@ ghost use Rattle.std.specs.Prelude.{◌≡◌};
 ghost use Rattle.ps_word.specs.Format as layout;
 ghost use Rattle.ps_word.specs.Format.{IsContent};
 
-use crate::operators::number_of;
 use crate::values::{Content, Part, access_number};
+use ps_language::operators::number_of;
 
 /// The lowest bit of the type's number.
 pub(crate) const TYPE: u64 = 1 << 60;

@@ -16,6 +16,5 @@
 
 mod bits;
 pub mod headers;
-pub mod operators;
 pub mod values;
 pub mod words;

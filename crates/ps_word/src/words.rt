@@ -11,11 +11,10 @@ use crate::bits::{
     ACCESS, ADDRESS, EXECUTABLE, OFFSET, OPERATOR, PROCEDURE, REFERENCE, TYPE, content_bits,
     type_number,
 };
-use crate::operators::{OPERATORS, operator_at, operator_of};
 use crate::values::{Content, Part, Value, access_number, access_of};
 use ps_language::access::Access;
 use ps_language::kinds::Kind;
-use ps_language::operators::Operator;
+use ps_language::operators::{OPERATORS, Operator, operator_at, operator_of};
 
 /// A word of memory.
 #[derive(Clone, Copy, Debug, PartialEq, Eq)]

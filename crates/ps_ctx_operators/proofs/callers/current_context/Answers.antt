@@ -32,6 +32,5 @@ pub current_context-outcome-requires-clause-caller :
 current_context-outcome-requires-clause-caller g c =
     let there = identifier_within c.args.contexts.now.table c.args.caller c.requires.runs.member
     c.requires.runs.found in
-    let few = c.made.ensures.within in
-    let all = c.made.ensures.made in
-    omega (arith, there, few, all)
+    let few = c.get_mut-member.ensures.within in
+    omega (arith, there, few)

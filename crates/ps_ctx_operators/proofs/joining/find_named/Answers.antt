@@ -14,16 +14,16 @@ returns-then-identifier-caller c = λ h names member w shown found at.
 pub returns-then-not-is_finished : goal.returns-then-not-is_finished
 returns-then-not-is_finished c = λ h names member w shown found at.
     join_there h names c.args.caller c.args.identifier c.args.contexts.now.table c.requires.named
-    member found w shown at c.in-Some.other.now (sym c.in-Some.ensures) false false
+    member found w shown at c.in-Some.other.now (sym c.in-Some.ensures.item) false false
     (ne_eqb c.args.identifier c.args.caller c.if-identifier-caller.false)
     (sym c.is_finished.ensures ∙ c.if-not-is_finished.true)
 
 pub returns-then-len : goal.returns-then-len
 returns-then-len c = λ h names member w shown found at.
     let same = one_there c.args.contexts.now.table c.args.caller c.in-Some-get.member.now member
-    (sym c.in-Some-get.ensures) found in
+    (sym c.in-Some-get.ensures.item) found in
     join_overflows h names c.args.caller c.args.identifier c.args.contexts.now.table
-    c.requires.named member found w shown at c.in-Some.other.now (sym c.in-Some.ensures)
+    c.requires.named member found w shown at c.in-Some.other.now (sym c.in-Some.ensures.item)
     (ne_eqb c.args.identifier c.args.caller c.if-identifier-caller.false)
     (sym c.is_finished.ensures ∙ c.if-not-is_finished.false)
     (subst (λ (one : Member). 500 < length c.in-Some.other.now.context.operands

@@ -14,7 +14,7 @@ pub returns-in-Err : goal.returns-in-Err
 returns-in-Err g c =
     let d : Desk = over_of g.M.Memory.heap g.M.Memory.grants c.args.runtime.now
     c.args.contexts.now in
-    let it = c.awaited_lock-lock.ensures in
+    let it = c.awaited_lock-lock.ensures.course in
     rw c.permit_records.ensures.heap
     (untaken c.args.caller c.args.attempt d c.requires.steady it.member it.found
     c.awaited_lock-lock.result it.is (g.M.Memory.grants c.permit_records.new.memory)
@@ -26,7 +26,7 @@ pub set_owner-requires-clause-known : goal.set_owner-requires-clause-known
 set_owner-requires-clause-known g c =
     let d : Desk = over_of g.M.Memory.heap g.M.Memory.grants c.args.runtime.now
     c.args.contexts.now in
-    let it = c.awaited_lock-lock.ensures in
+    let it = c.awaited_lock-lock.ensures.course in
     rw c.permit_records.ensures.heap
     (stands c.args.caller c.args.attempt d c.requires.steady it.member it.found
     c.awaited_lock-lock.result it.is)
@@ -35,9 +35,8 @@ pub set_owner-requires-clause-owner : goal.set_owner-requires-clause-owner
 set_owner-requires-clause-owner g c =
     let there = identifier_within c.args.contexts.now.table c.args.caller
     c.requires.retakes.member c.requires.retakes.found in
-    let few = c.made.ensures.within in
-    let all = c.made.ensures.made in
-    omega (arith, there, few, all)
+    let few = c.awaited_lock-lock.ensures.within in
+    omega (arith, there, few)
 
 pub returns : goal.returns
 returns g c =
@@ -46,7 +45,7 @@ returns g c =
     let new : Heap = g.M.Memory.heap c.set_owner.new.memory in
     let mid : Grants = g.M.Memory.grants c.permit_records.new.memory in
     let left : Grants = g.M.Memory.grants c.set_owner.new.memory in
-    let it = c.awaited_lock-lock.ensures in
+    let it = c.awaited_lock-lock.ensures.course in
     let first = logs_asked c.args.attempt.slot d.grants mid c.permit_records.ensures.kept
     c.permit_records.ensures.others c.permit_records.ensures.more in
     let second = logs_stored mid left c.args.attempt.slot c.set_owner.ensures.grants in

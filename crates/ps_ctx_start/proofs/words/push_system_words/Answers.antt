@@ -1,6 +1,6 @@
 use Rattle.std.proofs.Common.{[], map, sym, ◌∙◌}
 use Rattle.std.proofs.lemmas.List.{append-nil}
-use Rattle.ps_language.specs.OperatorList.{every_operator}
+use Rattle.ps_language.specs.Operators.{every_operator}
 use Rattle.ps_mem.specs.Shows.{words_of_pairs}
 use Rattle.ps_ctx_start.specs.Words.{operator_words}
 use Rattle.ps_ctx_start.proofs.Pushing.{pair-behind, system-pushed}

@@ -1,12 +1,14 @@
-use Rattle.std.proofs.Common.{◌≡◌, ◌*◌, ◌++◌, ◌+◌, ◌<◌, ◌∙◌, ◌/◌, [], ◌∷◌, ap, arith, subst, length}
+use Rattle.std.proofs.Common.{ℕ, ◌≡◌, ◌*◌, ◌++◌, ◌+◌, ◌<◌, ◌≤◌, ◌∙◌, ◌/◌, [], ◌∷◌, ap, arith, subst, length}
 use Rattle.std.proofs.lemmas.List.{take_all}
-use Rattle.ps_mem.specs.Heap.{Heap, birth_at, stored}
+use Rattle.ps_mem.specs.Heap.{Heap, birth_at, fields_at, stored}
 use Rattle.ps_mem.specs.Index.{pairs_of_words, index_words}
 use Rattle.ps_dict.specs.Places.{capacity_at, body_at, pairs_at}
 use Rattle.ps_dict.specs.Puts.{AfterChange}
 use Rattle.ps_dict.proofs.Fresh.{length-in_twos}
 use Rattle.ps_dict.proofs.Granted.{none-used, store-used, then-used}
 use Rattle.ps_dict.proofs.Several.{positions-none, few-now, long-now, key-now, next-now}
+use Rattle.ps_dict.proofs.appends.index_pairs.Given.{Over}
+use Rattle.ps_dict.proofs.appends.index_pairs.Goals.{In-loop-position}
 use Rattle.ps_dict.proofs.appends.index_pairs.Goals as goal
 
 pub loop-position-init : goal.loop-position-init
@@ -20,116 +22,83 @@ loop-position-init g c =
           ∙ (c.body-body.ensures.grants ∙ c.length-count.ensures.grants)),
     )
 
+-- ---- in a turn of the loop
+
+module _ (g : Over) (c : In-loop-position g) where
+  abbrev h : Heap
+  h = g.M.Memory.heap c.args.memory.now
+
+  abbrev a : ℕ
+  a = c.args.address
+
+  below : c.loop-position.position < length c.args.words.now / 2
+  below = omega arith
+
+  is_body : c.body-body.result ≡ body_at h a
+  is_body = c.body-body.ensures.words ∙ ap (λ (k : Heap). body_at k a) c.length-count.ensures.heap
+
+  is_capacity : c.capacity-capacity.result ≡ capacity_at h a
+  is_capacity = c.capacity-capacity.ensures.words
+      ∙ ap (λ (k : Heap). capacity_at k a) (c.body-body.ensures.heap ∙ c.length-count.ensures.heap)
+
+  few : c.capacity-capacity.result ≤ 21845
+  few = few-now h a c.requires.known c.requires.sound c.args.words.now c.requires.room
+      c.requires.held c.loop-position.position below (g.M.Memory.heap c.loop-position.memory)
+      c.body-body.result c.capacity-capacity.result c.loop-position.invariant.0 is_body is_capacity
+
+  long : length (fields_at (g.M.Memory.heap c.loop-position.memory) c.body-body.result)
+      ≡ 3 * c.capacity-capacity.result
+  long = long-now h a c.requires.known c.requires.sound c.args.words.now c.requires.room
+      c.requires.held c.loop-position.position below (g.M.Memory.heap c.loop-position.memory)
+      c.body-body.result c.capacity-capacity.result c.loop-position.invariant.0 is_body is_capacity
+
 pub free_place-place-requires-clause-few : goal.free_place-place-requires-clause-few
 free_place-place-requires-clause-few g c =
-    let h = g.M.Memory.heap c.args.memory.now in
-    let a = c.args.address in
-    let i = c.loop-position.position in
-    let below : i < length c.args.words.now / 2 = omega arith in
-    let is_body : c.body-body.result ≡ body_at h a = c.body-body.ensures.words
-    ∙ ap (λ (k : Heap). body_at k a) c.length-count.ensures.heap in
-    let is_capacity : c.capacity-capacity.result ≡ capacity_at h a =
-    c.capacity-capacity.ensures.words
-    ∙ ap (λ (k : Heap). capacity_at k a) (c.body-body.ensures.heap ∙ c.length-count.ensures.heap) in
-    few-now h a c.requires.known c.requires.sound c.args.words.now
-    c.requires.room c.requires.held i below (g.M.Memory.heap c.loop-position.memory)
-    c.body-body.result
-    c.capacity-capacity.result c.loop-position.invariant.0 is_body is_capacity
+    few g (goal.at.free_place-place-requires-clause-few g c).In-loop-position
 
 pub free_place-place-requires-clause-held : goal.free_place-place-requires-clause-held
 free_place-place-requires-clause-held g c =
-    let h = g.M.Memory.heap c.args.memory.now in
-    let a = c.args.address in
-    let i = c.loop-position.position in
-    let below : i < length c.args.words.now / 2 = omega arith in
-    let is_body : c.body-body.result ≡ body_at h a = c.body-body.ensures.words
-    ∙ ap (λ (k : Heap). body_at k a) c.length-count.ensures.heap in
-    let is_capacity : c.capacity-capacity.result ≡ capacity_at h a =
-    c.capacity-capacity.ensures.words
-    ∙ ap (λ (k : Heap). capacity_at k a) (c.body-body.ensures.heap ∙ c.length-count.ensures.heap) in
-    key-now h a c.requires.known c.requires.sound c.args.words.now
-    c.requires.room c.requires.held i below (g.M.Memory.heap c.loop-position.memory)
-    c.body-body.result
-    c.capacity-capacity.result c.loop-position.invariant.0 is_body is_capacity
+    let d = (goal.at.free_place-place-requires-clause-held g c).In-loop-position in
+    key-now (h g d) (a g d) c.requires.known c.requires.sound c.args.words.now c.requires.room
+    c.requires.held c.loop-position.position (below g d) (g.M.Memory.heap c.loop-position.memory)
+    c.body-body.result c.capacity-capacity.result c.loop-position.invariant.0 (is_body g d)
+    (is_capacity g d)
 
 pub free_place-place-requires-clause-room : goal.free_place-place-requires-clause-room
 free_place-place-requires-clause-room g c =
-    let h = g.M.Memory.heap c.args.memory.now in
-    let a = c.args.address in
-    let i = c.loop-position.position in
-    let below : i < length c.args.words.now / 2 = omega arith in
-    let is_body : c.body-body.result ≡ body_at h a = c.body-body.ensures.words
-    ∙ ap (λ (k : Heap). body_at k a) c.length-count.ensures.heap in
-    let is_capacity : c.capacity-capacity.result ≡ capacity_at h a =
-    c.capacity-capacity.ensures.words
-    ∙ ap (λ (k : Heap). capacity_at k a) (c.body-body.ensures.heap ∙ c.length-count.ensures.heap) in
-    let long = long-now h a c.requires.known c.requires.sound c.args.words.now
-    c.requires.room c.requires.held i below (g.M.Memory.heap c.loop-position.memory)
-    c.body-body.result
-    c.capacity-capacity.result c.loop-position.invariant.0 is_body is_capacity in
-    omega (arith, long)
+    let all = long g (goal.at.free_place-place-requires-clause-room g c).In-loop-position in
+    omega (arith, all)
 
 pub overflow_add-capacity : goal.overflow_add-capacity
 overflow_add-capacity g c =
-    let h = g.M.Memory.heap c.args.memory.now in
-    let a = c.args.address in
-    let i = c.loop-position.position in
-    let below : i < length c.args.words.now / 2 = omega arith in
-    let is_body : c.body-body.result ≡ body_at h a = c.body-body.ensures.words
-    ∙ ap (λ (k : Heap). body_at k a) c.length-count.ensures.heap in
-    let is_capacity : c.capacity-capacity.result ≡ capacity_at h a =
-    c.capacity-capacity.ensures.words
-    ∙ ap (λ (k : Heap). capacity_at k a) (c.body-body.ensures.heap ∙ c.length-count.ensures.heap) in
-    let few = few-now h a c.requires.known c.requires.sound c.args.words.now
-    c.requires.room c.requires.held i below (g.M.Memory.heap c.loop-position.memory)
-    c.body-body.result
-    c.capacity-capacity.result c.loop-position.invariant.0 is_body is_capacity in
+    let most = few g (goal.at.overflow_add-capacity g c).In-loop-position in
     let within = c.free_place-place.ensures.below in
-    omega (arith, few, within)
+    omega (arith, most, within)
 
 pub store-requires-clause-place : goal.store-requires-clause-place
 store-requires-clause-place g c =
-    let h = g.M.Memory.heap c.args.memory.now in
-    let a = c.args.address in
-    let i = c.loop-position.position in
-    let below : i < length c.args.words.now / 2 = omega arith in
-    let is_body : c.body-body.result ≡ body_at h a = c.body-body.ensures.words
-    ∙ ap (λ (k : Heap). body_at k a) c.length-count.ensures.heap in
-    let is_capacity : c.capacity-capacity.result ≡ capacity_at h a =
-    c.capacity-capacity.ensures.words
-    ∙ ap (λ (k : Heap). capacity_at k a) (c.body-body.ensures.heap ∙ c.length-count.ensures.heap) in
-    let long = long-now h a c.requires.known c.requires.sound c.args.words.now
-    c.requires.room c.requires.held i below (g.M.Memory.heap c.free_place-place.new.memory)
-    c.body-body.result
-    c.capacity-capacity.result (c.free_place-place.ensures.heap ∙ c.loop-position.invariant.0)
-    is_body is_capacity in
+    let all = ap (λ (k : Heap). length (fields_at k c.body-body.result))
+    c.free_place-place.ensures.heap
+    ∙ long g (goal.at.store-requires-clause-place g c).In-loop-position in
     let within = c.free_place-place.ensures.below in
-    omega (arith, long, within)
+    omega (arith, all, within)
 
 pub loop-position-preserved : goal.loop-position-preserved
 loop-position-preserved g c =
-    let h = g.M.Memory.heap c.args.memory.now in
-    let a = c.args.address in
-    let i = c.loop-position.position in
-    let below : i < length c.args.words.now / 2 = omega arith in
-    let is_body : c.body-body.result ≡ body_at h a = c.body-body.ensures.words
-    ∙ ap (λ (k : Heap). body_at k a) c.length-count.ensures.heap in
-    let is_capacity : c.capacity-capacity.result ≡ capacity_at h a =
-    c.capacity-capacity.ensures.words
-    ∙ ap (λ (k : Heap). capacity_at k a) (c.body-body.ensures.heap ∙ c.length-count.ensures.heap) in
+    let d = (goal.at.loop-position-preserved g c).In-loop-position in
     let w = c.natural_word-word.result in
     let p = c.free_place-place.result in (
       c.store.ensures.heap
           ∙ (ap (λ (k : Heap). stored k c.body-body.result (2 * c.capacity-capacity.result + p)
           (w ∷ [])) c.free_place-place.ensures.heap
-          ∙ next-now h a c.requires.known c.requires.sound c.args.words.now
-          c.requires.room c.requires.held i below (g.M.Memory.heap c.loop-position.memory)
-          c.body-body.result
-          c.capacity-capacity.result c.loop-position.invariant.0 is_body is_capacity p
+          ∙ next-now (h g d) (a g d) c.requires.known c.requires.sound c.args.words.now
+          c.requires.room c.requires.held c.loop-position.position (below g d)
+          (g.M.Memory.heap c.loop-position.memory) c.body-body.result c.capacity-capacity.result
+          c.loop-position.invariant.0 (is_body g d) (is_capacity g d) p
           c.free_place-place.ensures.below c.free_place-place.ensures.placed
           c.length-count.result c.length-count.ensures.words w
-          c.natural_word-word.ensures.value (c.natural_word-word.ensures.held h)),
-      then-used _ _ _ c.args.slot i 1 0 0 c.loop-position.invariant.1
+          c.natural_word-word.ensures.value (c.natural_word-word.ensures.held (h g d))),
+      then-used _ _ _ c.args.slot c.loop-position.position 1 0 0 c.loop-position.invariant.1
           (subst (λ x. AfterChange x (g.M.Memory.grants c.store.new.self) c.args.slot 1 0)
           c.free_place-place.ensures.grants (store-used _ _ c.args.slot c.store.ensures.grants)),
     )

@@ -1,4 +1,4 @@
-use Rattle.std.proofs.Common.{◌+◌, ◌∙◌, sym, arith, subst}
+use Rattle.std.proofs.Common.{◌≤◌, ◌+◌, ◌∙◌, sym, arith, subst}
 use Rattle.ps_language.specs.Value.{Dictionary}
 use Rattle.ps_language.specs.Access.{with_dictionary}
 use Rattle.ps_mem.specs.Heap.{birth_at}
@@ -9,6 +9,8 @@ use Rattle.ps_dict.specs.Places.{count_at, capacity_at, pairs_at, place_of}
 use Rattle.ps_dict.specs.Puts.{plan_at}
 use Rattle.ps_dict.proofs.Reading.{position-below}
 use Rattle.ps_dict.proofs.Planning.{plan-replace, plan-append, plan-grow, grown-limits, put-replaces, put-appends, put-grows}
+use Rattle.ps_dict.proofs.changes.put.Given.{Over}
+use Rattle.ps_dict.proofs.changes.put.Goals.{In-Grow}
 use Rattle.ps_dict.proofs.changes.put.Goals as goal
 
 pub replace_value-requires-clause-place : goal.replace_value-requires-clause-place
@@ -28,33 +30,33 @@ append_pairs-requires-clause-room g c =
     let room = facts.1 in
     omega (arith, room)
 
-pub grow_with-requires-clause-capacity : goal.grow_with-requires-clause-capacity
+-- the capacity that is planned has room for a pair more, and is within the limit
+planned : (g : Over) (c : In-Grow g)
+    → (count_at (g.M.Memory.heap c.args.memory.now) c.args.address + 1 ≤ c.in-Grow.capacity)
+    × (c.in-Grow.capacity ≤ 21845)
 unfolding plan_at
-grow_with-requires-clause-capacity g c =
+planned g c =
     let h = g.M.Memory.heap c.args.memory.now in
     let facts = plan-grow (count_at h c.args.address) (capacity_at h c.args.address)
-    (place_of (pairs_at h c.args.address) c.args.key) c.in-Grow.capacity (sym c.requires.plan ∙ c.in-Grow.is) in
+    (place_of (pairs_at h c.args.address) c.args.key) c.in-Grow.capacity
+    (sym c.requires.plan ∙ c.in-Grow.is) in
     let is = facts.1 in
     let full = facts.2 in
     let few = facts.3 in
-    let limits = grown-limits (capacity_at h c.args.address) (count_at h c.args.address + 1) (omega (arith, full))
-    (omega (arith, few)) in
+    let limits = grown-limits (capacity_at h c.args.address) (count_at h c.args.address + 1)
+    (omega (arith, full)) (omega (arith, few)) in
+    let least = limits.0 in
     let most = limits.1 in
-    omega (arith, is, most)
+    (omega (arith, is, least), omega (arith, is, most))
+
+pub grow_with-requires-clause-capacity : goal.grow_with-requires-clause-capacity
+grow_with-requires-clause-capacity g c =
+    (planned g (goal.at.grow_with-requires-clause-capacity g c).In-Grow).1
 
 pub grow_with-requires-clause-room : goal.grow_with-requires-clause-room
-unfolding plan_at
 grow_with-requires-clause-room g c =
-    let h = g.M.Memory.heap c.args.memory.now in
-    let facts = plan-grow (count_at h c.args.address) (capacity_at h c.args.address)
-    (place_of (pairs_at h c.args.address) c.args.key) c.in-Grow.capacity (sym c.requires.plan ∙ c.in-Grow.is) in
-    let is = facts.1 in
-    let full = facts.2 in
-    let few = facts.3 in
-    let limits = grown-limits (capacity_at h c.args.address) (count_at h c.args.address + 1) (omega (arith, full))
-    (omega (arith, few)) in
-    let least = limits.0 in
-    omega (arith, is, least)
+    let least = (planned g (goal.at.grow_with-requires-clause-room g c).In-Grow).0 in
+    omega (arith, least)
 
 pub returns-in-Replace-clause-shows : goal.returns-in-Replace-clause-shows
 unfolding plan_at

@@ -8,8 +8,9 @@ use Rattle.ps_mem.specs.Shows.{AreValues}
 use Rattle.ps_core_laws.specs.Memory.{heap_of}
 use Rattle.ps_core_laws.specs.Stores.{numbers}
 use Rattle.ps_core_laws.specs.Collected.{IsCollected, IsExact}
+use Rattle.ps_core_laws.specs.Tries.{is_done}
 use Rattle.ps_table.proofs.Kept.{keeps_vm, sits_on}
-use Rattle.ps_gc.specs.declared.flips.Flip.TheVariants.{Done}
+use Rattle.ps_core_laws.specs.declared.tries.Flip.TheVariants.{Done}
 use Rattle.ps_gc.specs.Flipping.{MayFlip}
 use Rattle.ps_gc.proofs.Ending.{ended_scanned, logs_ended, must_flip}
 use Rattle.ps_gc.proofs.Roots.{still_have}
@@ -61,7 +62,7 @@ returns-clause-moved g c =
     subst (λ (h : Heap). IsCollected h
     (heap_of c.joined_try_flip.new.self.gc.seat.me.0.vm) c.args.roots.now
     c.joined_try_flip.new.roots) heap
-    (c.joined_try_flip.ensures.moved c.in-Done.is)
+    (c.joined_try_flip.ensures.flips.moved (ap is_done c.in-Done.is))
 
 pub returns-clause-flips : goal.returns-clause-flips
 returns-clause-flips g c =
@@ -74,7 +75,7 @@ returns-clause-flips g c =
 
 pub returns-clause-quiet : goal.returns-clause-quiet
 returns-clause-quiet g c =
-    let g = c.joined_try_flip.ensures.grants c.in-Done.is in
+    let g = c.joined_try_flip.ensures.flips.grants (ap is_done c.in-Done.is) in
     record { cycle_open = g.cycle_open; closed = g.closed }
 
 pub returns-clause-exact : goal.returns-clause-exact

@@ -1,7 +1,7 @@
 use Rattle.std.proofs.Common.{◌≡◌, true, drop}
 use Rattle.ps_core_machine.specs.Objects.{values_have_replicas, values_stand}
 use Rattle.ps_core_laws.specs.Stores.{numbers}
-use Rattle.ps_table.specs.Events.{OnlyLooks}
+use Rattle.ps_core_laws.specs.Looks.{OnlyLooks}
 use Rattle.ps_table.specs.Mirrored.{Sits}
 use Rattle.ps_gc.proofs.flips.have_replicas.Given as goal
 

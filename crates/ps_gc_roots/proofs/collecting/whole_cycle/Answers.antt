@@ -1,15 +1,15 @@
-use Rattle.std.proofs.Common.{◌≡◌, length, drop, arith, sym, subst, ◌∙◌}
+use Rattle.std.proofs.Common.{◌≡◌, length, drop, arith, refl, sym, subst, ◌∙◌}
 use Rattle.std.proofs.lemmas.List.{take_at}
-use Rattle.ps_core_laws.specs.Collected.{IsCollected, IsExact}
+use Rattle.ps_core_laws.specs.Collected.{IsCollected}
 use Rattle.ps_gc_roots.proofs.Whole.{over-lives}
 use Rattle.ps_gc_roots.proofs.Moving.{over-values, over-granted, over-moved}
 use Rattle.ps_gc_roots.proofs.collecting.whole_cycle.Goals as goal
 
 pub whole_cycle-requires : goal.whole_cycle-requires
 whole_cycle-requires g c = record {
-  values = over-values (g.M.Memory.heap c.args.runtime.now.memory) (g.M.Memory.heap c.is_open.new.self)
+  values = over-values (g.M.Memory.heap c.args.runtime.now.memory) (g.M.Memory.heap c.args.runtime.now.memory)
       (g.M.Memory.grants c.args.runtime.now.memory) (g.M.Memory.grants c.args.runtime.now.memory)
-      c.args.runtime.now.shared c.args.contexts.now c.as_mut_slice.result.now c.is_open.ensures.heap
+      c.args.runtime.now.shared c.args.contexts.now c.as_mut_slice.result.now refl
       (c.as_mut_slice.ensures.value ∙ c.read_roots.ensures.roots) c.requires.steady
       c.is_open.ensures.addressed;
 }
@@ -19,7 +19,7 @@ returns-then-not-whole_cycle-clause-kept g c =
     over-granted (g.M.Memory.heap c.args.runtime.now.memory) (g.M.Memory.heap c.whole_cycle.new.memory)
     (g.M.Memory.grants c.args.runtime.now.memory) (g.M.Memory.grants c.whole_cycle.new.memory)
     c.args.runtime.now.shared c.args.contexts.now
-    (c.whole_cycle.ensures.heap c.if-not-whole_cycle.true ∙ c.is_open.ensures.heap)
+    (c.whole_cycle.ensures.heap c.if-not-whole_cycle.true)
 
 pub returns-clause-kept : goal.returns-clause-kept
 returns-clause-kept g c =
@@ -35,9 +35,7 @@ returns-clause-kept g c =
     (c.as_mut_slice.ensures.value ∙ c.read_roots.ensures.roots)
     (subst (λ words. IsCollected (g.M.Memory.heap c.args.runtime.now.memory)
     (g.M.Memory.heap c.whole_cycle.new.memory) c.as_mut_slice.result.now words) (sym written)
-    (subst (λ heap. IsCollected heap (g.M.Memory.heap c.whole_cycle.new.memory)
-    c.as_mut_slice.result.now moved) c.is_open.ensures.heap
-    (c.whole_cycle.ensures.exact c.if-not-whole_cycle.false).collected))
+    (c.whole_cycle.ensures.exact c.if-not-whole_cycle.false).collected)
     c.write_roots.ensures.table c.write_roots.ensures.faulted
 
 pub returns-clause-lives : goal.returns-clause-lives
@@ -46,6 +44,4 @@ returns-clause-lives g c = λ yes w at.
     (g.M.Memory.grants c.args.runtime.now.memory) c.args.runtime.now.shared c.args.contexts.now c.as_mut_slice.result.now
     c.whole_cycle.new.roots c.requires.steady c.is_open.ensures.addressed
     (c.as_mut_slice.ensures.value ∙ c.read_roots.ensures.roots)
-    (subst (λ heap. IsExact heap (g.M.Memory.heap c.whole_cycle.new.memory)
-    c.as_mut_slice.result.now c.whole_cycle.new.roots) c.is_open.ensures.heap
-    (c.whole_cycle.ensures.exact c.if-not-whole_cycle.false)) w at
+    (c.whole_cycle.ensures.exact c.if-not-whole_cycle.false) w at

@@ -34,6 +34,7 @@ loop-member-preserved c =
           ∙ roots-read roots_of_member c.loop-member.roots.items _ items
           c.loop-member.member-index c.member-item.result at c.loop-member.invariant.read;
       count = omega (arith, c.read_member.ensures.longer);
+      within = omega (arith, c.loop-member-test.true);
       capacity = c.read_member.ensures.capacity ∙ c.loop-member.invariant.capacity;
     }
 
@@ -43,3 +44,12 @@ returns-clause-roots c =
     c.loop-member.member-index c.loop-member-test.false c.loop-member.invariant.read
     ∙ (ap (flat_map roots_of_member) c.items-member-items.ensures
     ∙ left-roots c.args.contexts.now.table)
+
+pub returns-clause-few : goal.returns-clause-few
+returns-clause-few c =
+    let many = left-length c.args.contexts.now.table in
+    let same = ap length c.items-member-items.ensures in
+    let few = c.left-left.ensures.within in
+    let is = c.left-left.ensures.left in
+    let within = c.loop-member.invariant.within in
+    omega (arith, many, same, few, is, within, c.loop-member.invariant.count)

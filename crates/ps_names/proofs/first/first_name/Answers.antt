@@ -1,153 +1,157 @@
 -- Each name by its number.
-use Rattle.std.proofs.Common.{Some, sym, ap, arith, ◌∙◌}
+use Rattle.std.proofs.Common.{◌≡◌, ◌+◌, ◌-◌, Some, sym, ap, arith, ◌∙◌}
 use Rattle.std.specs.Prelude.{slice_get}
 use Rattle.std.proofs.lemmas.Bool.Decides.{nat_tests}
-use Rattle.ps_language.specs.OperatorNames.{operator_name}
+use Rattle.ps_language.specs.Operators.{operator_name}
 use Rattle.ps_language.specs.Worlds.{first_names}
 use Rattle.ps_names.proofs.FirstNames.{operator_first}
 use Rattle.ps_names.proofs.first.first_name.Goals as goal
 
-pub returns-then-number-lt99 : goal.returns-then-number-lt99
-returns-then-number-lt99 c =
-    operator_first c.args.number (grind (arith, nat_tests, c.if-number-lt99.true))
-    ∙ ap Some (sym (c.operator_name.ensures ∙ ap operator_name c.operator_of.ensures))
+pub returns-then-number-ge-FIRST_OPERATOR : goal.returns-then-number-ge-FIRST_OPERATOR
+returns-then-number-ge-FIRST_OPERATOR c =
+    let from = c.if-number-ge-FIRST_OPERATOR.true in
+    let below = c.requires in
+    let place : 35 + (c.args.number - 35) ≡ c.args.number = omega (arith, from) in
+    ap (slice_get first_names) (sym place)
+    ∙ operator_first (c.args.number - 35) (omega (arith, from, below))
+    ∙ ap Some (sym (c.operator_name.ensures ∙ ap operator_name c.operator_at.ensures))
 
-pub returns-in-99 : goal.returns-in-99
+pub returns-in-0 : goal.returns-in-0
 unfolding first_names
-returns-in-99 c = ap (slice_get first_names) c.in-99.is
+returns-in-0 c = ap (slice_get first_names) c.in-0.is ∙ ap Some (sym c.error_text.ensures)
 
-pub returns-in-100 : goal.returns-in-100
+pub returns-in-1 : goal.returns-in-1
 unfolding first_names
-returns-in-100 c = ap (slice_get first_names) c.in-100.is
+returns-in-1 c = ap (slice_get first_names) c.in-1.is ∙ ap Some (sym c.error_text-in-1.ensures)
 
-pub returns-in-101 : goal.returns-in-101
+pub returns-in-2 : goal.returns-in-2
 unfolding first_names
-returns-in-101 c = ap (slice_get first_names) c.in-101.is
+returns-in-2 c = ap (slice_get first_names) c.in-2.is ∙ ap Some (sym c.error_text-in-2.ensures)
 
-pub returns-in-102 : goal.returns-in-102
+pub returns-in-3 : goal.returns-in-3
 unfolding first_names
-returns-in-102 c = ap (slice_get first_names) c.in-102.is
+returns-in-3 c = ap (slice_get first_names) c.in-3.is ∙ ap Some (sym c.error_text-in-3.ensures)
 
-pub returns-in-103 : goal.returns-in-103
+pub returns-in-4 : goal.returns-in-4
 unfolding first_names
-returns-in-103 c = ap (slice_get first_names) c.in-103.is
+returns-in-4 c = ap (slice_get first_names) c.in-4.is ∙ ap Some (sym c.error_text-in-4.ensures)
 
-pub returns-in-104 : goal.returns-in-104
+pub returns-in-5 : goal.returns-in-5
 unfolding first_names
-returns-in-104 c = ap (slice_get first_names) c.in-104.is ∙ ap Some (sym c.error_text.ensures)
+returns-in-5 c = ap (slice_get first_names) c.in-5.is ∙ ap Some (sym c.error_text-in-5.ensures)
 
-pub returns-in-105 : goal.returns-in-105
+pub returns-in-6 : goal.returns-in-6
 unfolding first_names
-returns-in-105 c = ap (slice_get first_names) c.in-105.is ∙ ap Some (sym c.error_text-in-105.ensures)
+returns-in-6 c = ap (slice_get first_names) c.in-6.is ∙ ap Some (sym c.error_text-in-6.ensures)
 
-pub returns-in-106 : goal.returns-in-106
+pub returns-in-7 : goal.returns-in-7
 unfolding first_names
-returns-in-106 c = ap (slice_get first_names) c.in-106.is ∙ ap Some (sym c.error_text-in-106.ensures)
+returns-in-7 c = ap (slice_get first_names) c.in-7.is ∙ ap Some (sym c.error_text-in-7.ensures)
 
-pub returns-in-107 : goal.returns-in-107
+pub returns-in-8 : goal.returns-in-8
 unfolding first_names
-returns-in-107 c = ap (slice_get first_names) c.in-107.is ∙ ap Some (sym c.error_text-in-107.ensures)
+returns-in-8 c = ap (slice_get first_names) c.in-8.is ∙ ap Some (sym c.error_text-in-8.ensures)
 
-pub returns-in-108 : goal.returns-in-108
+pub returns-in-9 : goal.returns-in-9
 unfolding first_names
-returns-in-108 c = ap (slice_get first_names) c.in-108.is ∙ ap Some (sym c.error_text-in-108.ensures)
+returns-in-9 c = ap (slice_get first_names) c.in-9.is ∙ ap Some (sym c.error_text-in-9.ensures)
 
-pub returns-in-109 : goal.returns-in-109
+pub returns-in-10 : goal.returns-in-10
 unfolding first_names
-returns-in-109 c = ap (slice_get first_names) c.in-109.is ∙ ap Some (sym c.error_text-in-109.ensures)
+returns-in-10 c = ap (slice_get first_names) c.in-10.is ∙ ap Some (sym c.error_text-in-10.ensures)
 
-pub returns-in-110 : goal.returns-in-110
+pub returns-in-11 : goal.returns-in-11
 unfolding first_names
-returns-in-110 c = ap (slice_get first_names) c.in-110.is ∙ ap Some (sym c.error_text-in-110.ensures)
+returns-in-11 c = ap (slice_get first_names) c.in-11.is ∙ ap Some (sym c.error_text-in-11.ensures)
 
-pub returns-in-111 : goal.returns-in-111
+pub returns-in-12 : goal.returns-in-12
 unfolding first_names
-returns-in-111 c = ap (slice_get first_names) c.in-111.is ∙ ap Some (sym c.error_text-in-111.ensures)
+returns-in-12 c = ap (slice_get first_names) c.in-12.is ∙ ap Some (sym c.error_text-in-12.ensures)
 
-pub returns-in-112 : goal.returns-in-112
+pub returns-in-13 : goal.returns-in-13
 unfolding first_names
-returns-in-112 c = ap (slice_get first_names) c.in-112.is ∙ ap Some (sym c.error_text-in-112.ensures)
+returns-in-13 c = ap (slice_get first_names) c.in-13.is ∙ ap Some (sym c.error_text-in-13.ensures)
 
-pub returns-in-113 : goal.returns-in-113
+pub returns-in-14 : goal.returns-in-14
 unfolding first_names
-returns-in-113 c = ap (slice_get first_names) c.in-113.is ∙ ap Some (sym c.error_text-in-113.ensures)
+returns-in-14 c = ap (slice_get first_names) c.in-14.is ∙ ap Some (sym c.error_text-in-14.ensures)
 
-pub returns-in-114 : goal.returns-in-114
+pub returns-in-15 : goal.returns-in-15
 unfolding first_names
-returns-in-114 c = ap (slice_get first_names) c.in-114.is ∙ ap Some (sym c.error_text-in-114.ensures)
+returns-in-15 c = ap (slice_get first_names) c.in-15.is ∙ ap Some (sym c.error_text-in-15.ensures)
 
-pub returns-in-115 : goal.returns-in-115
+pub returns-in-16 : goal.returns-in-16
 unfolding first_names
-returns-in-115 c = ap (slice_get first_names) c.in-115.is ∙ ap Some (sym c.error_text-in-115.ensures)
+returns-in-16 c = ap (slice_get first_names) c.in-16.is
 
-pub returns-in-116 : goal.returns-in-116
+pub returns-in-17 : goal.returns-in-17
 unfolding first_names
-returns-in-116 c = ap (slice_get first_names) c.in-116.is ∙ ap Some (sym c.error_text-in-116.ensures)
+returns-in-17 c = ap (slice_get first_names) c.in-17.is
 
-pub returns-in-117 : goal.returns-in-117
+pub returns-in-18 : goal.returns-in-18
 unfolding first_names
-returns-in-117 c = ap (slice_get first_names) c.in-117.is ∙ ap Some (sym c.error_text-in-117.ensures)
+returns-in-18 c = ap (slice_get first_names) c.in-18.is
 
-pub returns-in-118 : goal.returns-in-118
+pub returns-in-19 : goal.returns-in-19
 unfolding first_names
-returns-in-118 c = ap (slice_get first_names) c.in-118.is ∙ ap Some (sym c.error_text-in-118.ensures)
+returns-in-19 c = ap (slice_get first_names) c.in-19.is
 
-pub returns-in-119 : goal.returns-in-119
+pub returns-in-20 : goal.returns-in-20
 unfolding first_names
-returns-in-119 c = ap (slice_get first_names) c.in-119.is ∙ ap Some (sym c.error_text-in-119.ensures)
+returns-in-20 c = ap (slice_get first_names) c.in-20.is
 
-pub returns-in-120 : goal.returns-in-120
+pub returns-in-21 : goal.returns-in-21
 unfolding first_names
-returns-in-120 c = ap (slice_get first_names) c.in-120.is
+returns-in-21 c = ap (slice_get first_names) c.in-21.is
 
-pub returns-in-121 : goal.returns-in-121
+pub returns-in-22 : goal.returns-in-22
 unfolding first_names
-returns-in-121 c = ap (slice_get first_names) c.in-121.is
+returns-in-22 c = ap (slice_get first_names) c.in-22.is
 
-pub returns-in-122 : goal.returns-in-122
+pub returns-in-23 : goal.returns-in-23
 unfolding first_names
-returns-in-122 c = ap (slice_get first_names) c.in-122.is
+returns-in-23 c = ap (slice_get first_names) c.in-23.is
 
-pub returns-in-123 : goal.returns-in-123
+pub returns-in-24 : goal.returns-in-24
 unfolding first_names
-returns-in-123 c = ap (slice_get first_names) c.in-123.is
+returns-in-24 c = ap (slice_get first_names) c.in-24.is
 
-pub returns-in-124 : goal.returns-in-124
+pub returns-in-25 : goal.returns-in-25
 unfolding first_names
-returns-in-124 c = ap (slice_get first_names) c.in-124.is
+returns-in-25 c = ap (slice_get first_names) c.in-25.is
 
-pub returns-in-125 : goal.returns-in-125
+pub returns-in-26 : goal.returns-in-26
 unfolding first_names
-returns-in-125 c = ap (slice_get first_names) c.in-125.is
+returns-in-26 c = ap (slice_get first_names) c.in-26.is
 
-pub returns-in-126 : goal.returns-in-126
+pub returns-in-27 : goal.returns-in-27
 unfolding first_names
-returns-in-126 c = ap (slice_get first_names) c.in-126.is
+returns-in-27 c = ap (slice_get first_names) c.in-27.is
 
-pub returns-in-127 : goal.returns-in-127
+pub returns-in-28 : goal.returns-in-28
 unfolding first_names
-returns-in-127 c = ap (slice_get first_names) c.in-127.is
+returns-in-28 c = ap (slice_get first_names) c.in-28.is
 
-pub returns-in-128 : goal.returns-in-128
+pub returns-in-29 : goal.returns-in-29
 unfolding first_names
-returns-in-128 c = ap (slice_get first_names) c.in-128.is
+returns-in-29 c = ap (slice_get first_names) c.in-29.is
 
-pub returns-in-129 : goal.returns-in-129
+pub returns-in-30 : goal.returns-in-30
 unfolding first_names
-returns-in-129 c = ap (slice_get first_names) c.in-129.is
+returns-in-30 c = ap (slice_get first_names) c.in-30.is
 
-pub returns-in-130 : goal.returns-in-130
+pub returns-in-31 : goal.returns-in-31
 unfolding first_names
-returns-in-130 c = ap (slice_get first_names) c.in-130.is
+returns-in-31 c = ap (slice_get first_names) c.in-31.is
 
-pub returns-in-131 : goal.returns-in-131
+pub returns-in-32 : goal.returns-in-32
 unfolding first_names
-returns-in-131 c = ap (slice_get first_names) c.in-131.is
+returns-in-32 c = ap (slice_get first_names) c.in-32.is
 
-pub returns-in-132 : goal.returns-in-132
+pub returns-in-33 : goal.returns-in-33
 unfolding first_names
-returns-in-132 c = ap (slice_get first_names) c.in-132.is
+returns-in-33 c = ap (slice_get first_names) c.in-33.is
 
-pub returns-in-133 : goal.returns-in-133
+pub returns-in-34 : goal.returns-in-34
 unfolding first_names
-returns-in-133 c = ap (slice_get first_names) c.in-133.is
+returns-in-34 c = ap (slice_get first_names) c.in-34.is

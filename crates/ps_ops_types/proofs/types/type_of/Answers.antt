@@ -11,7 +11,7 @@ use Rattle.ps_ops_types.proofs.types.type_of.Goals as goal
 pub returns-clause-row : goal.returns-clause-row
 returns-clause-row c = λ h ready.
     let is = c.pack.ensures.value ∙ ap {B = Value}
-    (λ n. record { content = Name (120 + n); executable = true })
+    (λ n. record { content = Name (16 + n); executable = true })
     (c.type_place.ensures.place ∙ ap type_place c.content.ensures) in
     rw (c.replace.ensures) (type_observes _ _ is h _ c.in-Some.ensures)
 

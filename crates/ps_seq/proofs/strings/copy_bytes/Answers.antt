@@ -15,6 +15,8 @@ use Rattle.ps_seq.proofs.CompareLemmas.{length_part}
 use Rattle.ps_seq.proofs.SpliceLemmas.{words_from-run, words_from-copied}
 use Rattle.ps_seq.proofs.TextLemmas.{text_reaches, text_at}
 use Rattle.ps_seq.proofs.TextStores.{text_store_sound, text_store_keeps, text_store_shows}
+use Rattle.ps_seq.proofs.strings.copy_bytes.Given.{Over}
+use Rattle.ps_seq.proofs.strings.copy_bytes.Goals.{After-copy}
 use Rattle.ps_seq.proofs.strings.copy_bytes.Goals as goal
 
 copied_size : (ws : List Word) (source count : ℕ) → source + count ≤ length ws
@@ -39,34 +41,45 @@ copy-requires-clause-target g c =
     let place = c.requires.place in
     omega (arith, reach, place)
 
+-- ---- the words that are copied
+
+module _ (g : Over) (c : After-copy g) where
+  abbrev h : Heap
+  h = g.M.Memory.heap c.args.memory.now
+
+  abbrev source : ℕ
+  source = c.args.from.offset / 8
+
+  abbrev count : ℕ
+  count = c.args.from.length / 8
+
+  abbrev items : List Word
+  items = slice_range (fields_at h c.args.from.address) source (source + count)
+
+  size : length items ≡ count
+  size = copied_size (fields_at h c.args.from.address) source count
+      (let reach = text_reaches h c.args.from.address
+      (words_for (c.args.from.offset + c.args.from.length)) c.requires.source in
+      omega (arith, reach))
+
 pub returns-then-count-gt0-clause-sound : goal.returns-then-count-gt0-clause-sound
 returns-then-count-gt0-clause-sound g c =
-    let h = g.M.Memory.heap c.args.memory.now in
-    let p = c.args.from in
+    let d = (goal.at.returns-then-count-gt0-clause-sound g c).After-copy in
     let q = c.args.to in
     let place = c.requires.place in
-    let source = p.offset / 8 in
-    let count = p.length / 8 in
-    let reach = text_reaches h p.address (words_for (p.offset + p.length)) c.requires.source in
-    let ws = fields_at h p.address in
-    subst IsSound (sym c.copy.ensures.heap) (text_store_sound h q.address (words_for
-    (q.offset + q.length)) c.requires.target c.requires.sound ((q.offset + c.args.place) / 8) count
-    (slice_range ws source (source + count)) (copied_size ws source count (omega (arith, reach)))
+    subst IsSound (sym c.copy.ensures.heap)
+    (text_store_sound (h g d) q.address (words_for (q.offset + q.length)) c.requires.target
+    c.requires.sound ((q.offset + c.args.place) / 8) (count g d) (items g d) (size g d)
     (omega (arith, place)))
 
 pub returns-then-count-gt0-clause-keeps : goal.returns-then-count-gt0-clause-keeps
 returns-then-count-gt0-clause-keeps g c =
-    let h = g.M.Memory.heap c.args.memory.now in
-    let p = c.args.from in
+    let d = (goal.at.returns-then-count-gt0-clause-keeps g c).After-copy in
     let q = c.args.to in
     let place = c.requires.place in
-    let source = p.offset / 8 in
-    let count = p.length / 8 in
-    let reach = text_reaches h p.address (words_for (p.offset + p.length)) c.requires.source in
-    let ws = fields_at h p.address in
-    subst (Keeps h) (sym c.copy.ensures.heap) (text_store_keeps h q.address (words_for
-    (q.offset + q.length)) c.requires.target c.requires.sound ((q.offset + c.args.place) / 8) count
-    (slice_range ws source (source + count)) (copied_size ws source count (omega (arith, reach)))
+    subst (Keeps (h g d)) (sym c.copy.ensures.heap)
+    (text_store_keeps (h g d) q.address (words_for (q.offset + q.length)) c.requires.target
+    c.requires.sound ((q.offset + c.args.place) / 8) (count g d) (items g d) (size g d)
     (omega (arith, place)))
 
 pub returns-then-count-gt0-clause-births : goal.returns-then-count-gt0-clause-births
@@ -74,6 +87,7 @@ returns-then-count-gt0-clause-births g c = ap birth_at c.copy.ensures.heap ∙ b
 
 pub returns-then-count-gt0-clause-shows : goal.returns-then-count-gt0-clause-shows
 returns-then-count-gt0-clause-shows g c = λ names s shows within within'.
+    let d = (goal.at.returns-then-count-gt0-clause-shows g c).After-copy in
     let h = g.M.Memory.heap c.args.memory.now in
     let p = c.args.from in
     let q = c.args.to in
@@ -89,18 +103,14 @@ returns-then-count-gt0-clause-shows g c = λ names s shows within within'.
     let text = bytes s (birth_at h q.address) in
     let there = text_at h p.address (words_for (p.offset + p.length)) c.requires.source names s
     shows in
-    let reach = text_reaches h p.address (words_for (p.offset + p.length)) c.requires.source in
-    let ws = fields_at h p.address in
-    let items = slice_range ws source (source + count) in
-    let size = copied_size ws source count (omega (arith, reach)) in
     let bs = part_bytes s (part_of (birth_at h) p) in
     let long : length bs ≡ p.length = length_part from p.offset p.length within in
     let less : (source + count) - source ≡ count = omega arith in
     let at_is : 8 * first ≡ at = omega (arith, target_even) in
     let from_is : 8 * source ≡ p.offset = omega (arith, source_even) in
     let run_is : 8 * count ≡ (p.offset + p.length) - p.offset = omega (arith, count_even) in
-    let words : items ≡ words_from count (drop (8 * first) (splice text at bs)) =
-    ap (λ n. take n (drop source ws)) less
+    let words : items g d ≡ words_from count (drop (8 * first) (splice text at bs)) =
+    ap (λ n. take n (drop source (fields_at h p.address))) less
     ∙ (ap (λ (vs : List Word). take count (drop source vs)) there.words
     ∙ (words_from-run (words_for (length from)) source count from (omega
     (arith, within, source_even, count_even))
@@ -112,7 +122,7 @@ returns-then-count-gt0-clause-shows g c = λ names s shows within within'.
     subst (λ (k : Heap). Shows k names (with_part_bytes s (part_of (birth_at h) q) c.args.place bs))
     (sym c.copy.ensures.heap)
     (text_store_shows h q.address (words_for (q.offset + q.length)) c.requires.target
-    c.requires.sound first count items size (omega (arith, place)) names s shows at bs
+    c.requires.sound first count (items g d) (size g d) (omega (arith, place)) names s shows at bs
     (all_take_bytes _ _ (all_drop_bytes _ _ there.are)) (omega (arith, long, within', place))
     (omega (arith, at_is)) (omega (arith, at_is, long, count_even)) words)
 

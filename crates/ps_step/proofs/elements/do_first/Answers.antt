@@ -83,14 +83,14 @@ returns-in-Treats-clause-does g c =
       },
     )
 
-pub returns-in-Left-clause-does : goal.returns-in-Left-clause-does
-returns-in-Left-clause-does g c =
+pub returns-in-Slow-clause-does : goal.returns-in-Slow-clause-does
+returns-in-Slow-clause-does g c =
     let same = c.element_at-word.ensures.heap ∙ c.loop-at.invariant.heap in
     let start : ℕ = c.args.rest.address + c.args.rest.offset in
-    rw c.index_of-done-in-Left.ensures
+    rw c.index_of-done-in-Slow.ensures
     (subst (λ (now : List Word). DoesTo (g.M.Memory.heap c.args.memory.now)
     c.args.dictionaries.now c.args.rest (c.loop-at.at - start) c.args.operands.now now)
-    (sym (rw (same, c.in-Left.is) at c.do_quickly.ensures.comes)) c.loop-at.invariant.does)
+    (sym (rw (same, c.in-Slow.is) at c.do_quickly.ensures.comes)) c.loop-at.invariant.does)
 
 pub returns-clause-does : goal.returns-clause-does
 returns-clause-does g c =

@@ -26,26 +26,26 @@ loop-made-init g c =
 
 pub loop-made-preserved : goal.loop-made-preserved
 loop-made-preserved g c =
-    let takes = rw c.in-Done.is at c.read_token.ensures.takes in
+    let takes = rw c.in-Ok.is at c.read_token.ensures.takes in
     record {
       within = omega (arith, nat_tests, c.loop-made-test.true);
       framed = subst (λ (frames : List Frame). 1 ≤ length frames) (sym takes.0)
           c.loop-made.invariant.framed;
-      window = rw c.in-Done.is at c.read_token.ensures.window;
+      window = rw c.in-Ok.is at c.read_token.ensures.window;
       makes = read_more g.O.Operate.asks c.args.slot c.loop-made.made _
           (lent_of g.M.Memory.heap g.M.Memory.grants c.loop-made.context c.loop-made.runtime) c.loop-made.place.source c.loop-made.place.at
           c.loop-made.invariant.makes _ takes.1;
     }
 
-pub returns-in-Turned : goal.returns-in-Turned
-returns-in-Turned g c = record {
+pub returns-in-Err : goal.returns-in-Err
+returns-in-Err g c = record {
   within = c.with_turn.ensures.within;
   fewer = λ some. omega (arith, nat_tests, c.loop-made-test.true, c.with_turn.ensures.behind some);
   more = λ none. omega (arith, c.with_turn.ensures.more none);
   runs = c.with_turn.ensures.runs g.O.Operate.asks c.args.slot _ _
       (read_behind g.O.Operate.asks c.args.slot c.loop-made.made _
       (lent_of g.M.Memory.heap g.M.Memory.grants c.loop-made.context c.loop-made.runtime) c.loop-made.place.source c.loop-made.place.at
-      c.loop-made.invariant.makes _ _ (rw c.in-Turned.is at c.read_token.ensures.takes)) refl;
+      c.loop-made.invariant.makes _ _ (rw c.in-Err.is at c.read_token.ensures.takes)) refl;
 }
 
 pub returns : goal.returns

@@ -3,7 +3,6 @@ use Rattle.std.proofs.Common.{Option, Result, Ok, refl, sym, ap, subst, ◌∙�
 use Rattle.ps_scan.specs.declared.tokens.ScanFault.{ScanFault as Fault}
 use Rattle.ps_scan.specs.declared.tokens.Token.{Token}
 use Rattle.ps_scan.specs.Shown.{token_of}
-use Rattle.ps_step.specs.declared.tokens.Read.TheVariants.{Done}
 use Rattle.ps_step.specs.Reading.{Reads}
 use Rattle.ps_step.proofs.Reading.{literal_does}
 use Rattle.ps_step.proofs.tokens.literal_ahead.Goals as goal
@@ -12,7 +11,7 @@ pub returns-then-push_quickly-clause-reads : goal.returns-then-push_quickly-clau
 returns-then-push_quickly-clause-reads c = λ asks heap dictionaries.
     let token : Token = c.in-Ok-Some.token in
     subst (λ (scanned : Result (Option Token) Fault). Reads asks heap dictionaries
-    c.args.names.now c.args.text.now (Done token.end) scanned c.args.operands.now
+    c.args.names.now c.args.text.now (Ok token.end) scanned c.args.operands.now
     c.push_quickly.new.operands)
     (sym (c.in-Ok-Some.is ∙ ap Ok (rw c.in-Ok-Some.is at c.in-Ok-Some.field-0-is))) (
       refl,

@@ -12,7 +12,7 @@ returns-then-not-is_executable-clause-comes g c =
     let literal = sym c.is_executable.ensures ∙ c.if-not-is_executable.true in
     treated_comes g.O.Operate.asks (g.M.Memory.heap c.args.memory.now) c.args.dictionaries.now
     c.args.word c.args.operands.now c.push_quickly.new.operands c.of-came.result c.args.word _
-    c.or.ensures c.requires.word
+    c.came_or.ensures c.requires.word
     (own_treats g.O.Operate.asks (g.M.Memory.heap c.args.memory.now) c.args.dictionaries.now
     c.args.word
     (λ births names. literal_unmade c.args.word births names literal)
@@ -25,7 +25,7 @@ returns-in-Array-clause-comes g c =
     procedure_comes g.O.Operate.asks (g.M.Memory.heap c.args.memory.now) c.args.dictionaries.now
     c.args.word c.args.operands.now c.push_quickly-in-Array.new.operands
     c.push_quickly-in-Array.result c.of-came-in-Array.result _ c.of-came-in-Array.ensures
-    c.or-in-Array.ensures
+    c.came_or-in-Array.ensures
     (λ births names. made c.args.word births names _
     (sym c.is_executable.ensures ∙ c.if-not-is_executable.false)
     (sym c.content.ensures ∙ c.in-Array.is))
@@ -38,7 +38,7 @@ returns-in-Ok-Some-clause-comes g c =
     let is = c.in-Ok-Some.is ∙ ap Ok c.in-Ok-Some.field-0-is in
     treated_comes g.O.Operate.asks (g.M.Memory.heap c.args.memory.now) c.args.dictionaries.now
     c.args.word c.args.operands.now c.treat_ahead-came.new.operands c.treat_ahead-came.result
-    c.in-Ok-Some.found.1 _ c.or-in-Name.ensures
+    c.in-Ok-Some.found.1 _ c.came_or-in-Name.ensures
     (found_as (IsValue (g.M.Memory.heap c.args.memory.now)) c.look_up.result c.in-Ok-Some.found is
     c.look_up.ensures.held)
     (name_treats g.O.Operate.asks (g.M.Memory.heap c.args.memory.now) c.args.dictionaries.now
@@ -74,7 +74,7 @@ returns-in-Some-clause-comes g c =
     let is = c.in-Some.ensures.operator in
     treated_comes g.O.Operate.asks (g.M.Memory.heap c.args.memory.now) c.args.dictionaries.now
     c.args.word c.args.operands.now c.operate_ahead-came.new.operands c.operate_ahead-came.result
-    c.args.word _ c.or-in-Some.ensures c.requires.word
+    c.args.word _ c.came_or-in-Some.ensures c.requires.word
     (own_treats g.O.Operate.asks (g.M.Memory.heap c.args.memory.now) c.args.dictionaries.now
     c.args.word
     (λ births names. operator_unmade c.args.word births names _ is.1 is.0)

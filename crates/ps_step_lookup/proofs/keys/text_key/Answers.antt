@@ -26,7 +26,7 @@ loop-index-preserved g c =
 pub literal-requires : goal.literal-requires
 literal-requires g c =
     let below = c.in-Some.ensures.within in
-    let few = c.len-count.ensures.names.few in
+    let few = c.in-Some.ensures.names.few in
     omega (arith, below, few)
 
 pub returns-in-Some-clause-word : goal.returns-in-Some-clause-word

@@ -14,7 +14,7 @@ use Rattle.ps_language.specs.contracts.errors.ErrorName.{the_type}
 use Rattle.ps_step_outcome.proofs.notes.error_number.Goals as goal
 
 first_at : (error : ErrorName)
-    → slice_get first_names (104 + tag_of the_type error) ≡ Some (error_text error)
+    → slice_get first_names (0 + tag_of the_type error) ≡ Some (error_text error)
 unfolding first_names
 first_at DictStackOverflow = refl
 first_at DictStackUnderflow = refl

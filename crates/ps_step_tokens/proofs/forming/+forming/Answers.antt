@@ -60,9 +60,14 @@ form_names-loop-element-preserved t c =
         more.1 ∙ (ap (λ (ns : List (List ℕ)). ns ++ more.0) v.more.1
             ∙ append_assoc c.args.names.now v.more.0 more.0),
       );
+      are = λ old. c.in-Ok.ensures.are (v.are old);
       formed = v.formed
           ∙ (ap (λ (ts : Tokens). fold meet names (names_in ts)) next
           ∙ (formed_more names token rest
           ∙ ap (λ (ns : List (List ℕ)). fold meet ns (names_in rest))
           (sym c.in-Ok.ensures.formed)));
     }
+
+pub form_names-returns-in-Err-clause-are : goal.form_names-returns-in-Err-clause-are
+form_names-returns-in-Err-clause-are t c = λ old.
+    c.in-Err.ensures.are (c.loop-element.invariant.are old)

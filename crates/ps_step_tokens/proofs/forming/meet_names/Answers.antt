@@ -24,3 +24,6 @@ pub returns-else-names_fit-clause-more : goal.returns-else-names_fit-clause-more
 returns-else-names_fit-clause-more c =
     taken_back c.args.names.now c.form_names.new.names c.truncate.new.self
     c.form_names.ensures.more c.len-count.result c.len-count.ensures.count c.truncate.ensures
+
+pub returns-in-Ok-clause-are : goal.returns-in-Ok-clause-are
+returns-in-Ok-clause-are c = c.in-Ok.ensures.are c.len-count.ensures.names

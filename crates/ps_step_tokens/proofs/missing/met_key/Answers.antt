@@ -6,7 +6,7 @@ use Rattle.std.proofs.Common.{true, arith}
 pub name_word-requires : goal.name_word-requires
 name_word-requires c =
     let below = c.in-Some.ensures.within in
-    let few = c.len-count.ensures.names.few in
+    let few = c.in-Some.ensures.names.few in
     omega (arith, below, few)
 
 pub returns-in-Some-clause-held : goal.returns-in-Some-clause-held

@@ -60,7 +60,7 @@ make_element-returns-in-LiteralName-clause-made g t c =
     let names = c.args.names.now in
     let text = c.of.result.now in
     let w = c.met_word.result in
-    let met = c.met_word.ensures in
+    let met = c.met_word.ensures.word in
     subst (λ (token : language.Token). IsMade (one_made token) names c.args.dictionaries.now h h w)
     (sym (ap (token_of c.args.text.now) c.in-LiteralName.is
     ∙ (literal_name_is c.args.text.now c.in-LiteralName.span
@@ -79,7 +79,7 @@ make_element-returns-in-ExecutableName-clause-made g t c =
     let names = c.args.names.now in
     let text = c.of-in-ExecutableName.result.now in
     let w = c.met_word-in-ExecutableName.result in
-    let met = c.met_word-in-ExecutableName.ensures in
+    let met = c.met_word-in-ExecutableName.ensures.word in
     subst (λ (token : language.Token). IsMade (one_made token) names c.args.dictionaries.now h h w)
     (sym (ap (token_of c.args.text.now) c.in-ExecutableName.is
     ∙ (executable_name_is c.args.text.now c.in-ExecutableName.span

@@ -8,7 +8,7 @@ use Rattle.ps_step_tokens.proofs.objects.value_word.Goals as goal
 
 pub look_up-requires-clause-key : goal.look_up-requires-clause-key
 look_up-requires-clause-key g c =
-    let name = c.met_word-name.ensures in
+    let name = c.met_word-name.ensures.word in
     name_held c.met_word-name.result name.number true name.is _ name.word
 
 pub returns-in-Ok-Some-clause-within : goal.returns-in-Ok-Some-clause-within
@@ -19,11 +19,11 @@ returns-in-Ok-Some-clause-within g c = λ s shows inside.
 
 pub returns-in-Ok-Some-clause-value : goal.returns-in-Ok-Some-clause-value
 returns-in-Ok-Some-clause-value g c = λ s shows.
-    let name = c.met_word-name.ensures in
+    let name = c.met_word-name.ensures.word in
     sym (ap value_or_null (key_looks (g.M.Memory.heap c.args.memory.now) c.args.names.now
     c.args.dictionaries.now s c.args.text.now (Some c.met_word-name.result)
     (name.number, name.is, name.stands) c.look_up.result
-    (λ k. c.look_up.ensures.value _ s k shows c.len-count.ensures.names.different) _
+    (λ k. c.look_up.ensures.value _ s k shows c.met_word-name.ensures.names.different) _
     (c.in-Ok-Some.is ∙ ap Ok c.in-Ok-Some.field-0-is)))
 
 pub returns-in-Ok-None-clause-held : goal.returns-in-Ok-None-clause-held
@@ -34,12 +34,12 @@ returns-in-Ok-None-clause-within g c = λ s shows inside. plain_within _ _ s _ c
 
 pub returns-in-Ok-None-clause-value : goal.returns-in-Ok-None-clause-value
 returns-in-Ok-None-clause-value g c = λ s shows.
-    let name = c.met_word-name.ensures in
+    let name = c.met_word-name.ensures.word in
     c.null.ensures.value _ _
     ∙ sym (ap value_or_null (key_looks (g.M.Memory.heap c.args.memory.now) c.args.names.now
     c.args.dictionaries.now s c.args.text.now (Some c.met_word-name.result)
     (name.number, name.is, name.stands) c.look_up.result
-    (λ k. c.look_up.ensures.value _ s k shows c.len-count.ensures.names.different) _
+    (λ k. c.look_up.ensures.value _ s k shows c.met_word-name.ensures.names.different) _
     (c.in-Ok-None.is ∙ ap Ok c.in-Ok-None.field-0-is)))
 
 pub returns-in-Err-clause-held : goal.returns-in-Err-clause-held
@@ -51,10 +51,10 @@ returns-in-Err-clause-within g c =
 
 pub returns-in-Err-clause-value : goal.returns-in-Err-clause-value
 returns-in-Err-clause-value g c = λ s shows.
-    let name = c.met_word-name.ensures in
+    let name = c.met_word-name.ensures.word in
     c.null-in-Err.ensures.value _ _
     ∙ sym (ap value_or_null (key_looks (g.M.Memory.heap c.args.memory.now) c.args.names.now
     c.args.dictionaries.now s c.args.text.now (Some c.met_word-name.result)
     (name.number, name.is, name.stands) c.look_up.result
-    (λ k. c.look_up.ensures.value _ s k shows c.len-count.ensures.names.different) _
+    (λ k. c.look_up.ensures.value _ s k shows c.met_word-name.ensures.names.different) _
     c.in-Err.is))

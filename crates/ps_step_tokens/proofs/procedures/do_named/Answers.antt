@@ -21,7 +21,7 @@ do_formed-requires-clause-good g c =
     let content = tokens_in c.args.text.now c.args.elements.now in
     let more = c.in-Ok.ensures.more in
     formed_good l more.0 c.meet_names.new.names more.1 c.requires.good
-    c.len-formed.ensures.names.different
+    c.in-Ok.ensures.are.different
 
 pub do_formed-requires-clause-met : goal.do_formed-requires-clause-met
 do_formed-requires-clause-met g c =
@@ -40,7 +40,7 @@ returns-in-Ok-do_formed g c =
     let texts = names_in content in
     let is : names ≡ fold meet l.names texts = c.in-Ok.ensures.formed in
     let more = c.in-Ok.ensures.more in
-    let formed = all_formed l.names texts names is c.len-formed.ensures.names in
+    let formed = all_formed l.names texts names is c.in-Ok.ensures.are in
     turns_formed l more.0 names more.1 (named_asks content) (formed_asks content)
     (named_turn content) (formed_turn content) c.args.attempt
     (formed_as l content names formed more.0 more.1)
@@ -55,7 +55,7 @@ returns-in-Err g c =
     let texts = names_in content in
     let is : names ≡ fold meet l.names texts = c.in-Ok.ensures.formed in
     let more = c.in-Ok.ensures.more in
-    let formed = all_formed l.names texts names is c.len-formed.ensures.names in
+    let formed = all_formed l.names texts names is c.in-Ok.ensures.are in
     let turns = c.in-Err.ensures in
     let cut : c.truncate.new.self ≡ l.names = c.truncate.ensures
     ∙ (ap (λ (ns : List (List ℕ)). take c.len-count.result ns)

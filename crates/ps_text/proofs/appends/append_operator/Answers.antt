@@ -1,5 +1,5 @@
 use Rattle.std.proofs.Common.{[], ◌∷◌, ◌++◌, take, ap, ◌∙◌, arith}
-use Rattle.ps_language.specs.OperatorNames.{operator_name}
+use Rattle.ps_language.specs.Operators.{operator_name}
 use Rattle.ps_text.proofs.Cuts.{cut_three, full_three}
 use Rattle.ps_text.proofs.appends.append_operator.Goals as goal
 

@@ -5,6 +5,7 @@ use Rattle.ps_language.proofs.ScheduleLaws.{count_of-nil}
 use Rattle.ps_language.specs.Worlds.{starting_world, world}
 use Rattle.ps_mem.specs.Objects.{heap_in}
 use Rattle.ps_run_schedules.specs.Keeping.{Kept}
+use Rattle.ps_vault.specs.Holds.{is_held_up}
 use Rattle.ps_vault.specs.Order.{HasTurn, InOrder}
 use Rattle.ps_vault.specs.Reports.{are_ordinary, IsRunOf, IsStarved}
 use Rattle.ps_vault.specs.Screens.{HasShown}
@@ -38,7 +39,7 @@ into_run-requires-clause-within g c =
 pub into_run-requires-clause-fewer : goal.into_run-requires-clause-fewer
 into_run-requires-clause-fewer g c =
     budget_more c.has_failed.result c.run-run.result.made c.args.job.config.steps
-    c.budget_of-budget.result c.budget_of-budget.ensures c.run-run.result.held
+    c.budget_of-budget.result c.budget_of-budget.ensures (is_held_up c.run-run.result.told)
     (λ failed. c.run-run.ensures.cut (sym c.has_failed.ensures ∙ failed)) c.run-run.ensures.fewer
 
 pub into_run-requires-clause-ended : goal.into_run-requires-clause-ended
@@ -107,7 +108,7 @@ returns-clause-order g c =
 pub returns-clause-starved : goal.returns-clause-starved
 unfolding moves
 returns-clause-starved g c = λ memory.
-    let held : c.run-run.result.held ≡ true = sym c.into_run.ensures.memory ∙ memory in
+    let held : is_held_up c.run-run.result.told ≡ true = sym c.into_run.ensures.memory ∙ memory in
     let owed = c.run-run.ensures.owed (λ m. plain_grows _ _ _ _) held
     (ap moves c.in-Ok.ensures.schedule) in
     let made = c.run-run.new.self in

@@ -14,7 +14,7 @@ use Rattle.ps_vault.proofs.Screening.{begins_added, no_fewer, prints_on, shown_o
 use Rattle.ps_vault.specs.Screens.{HasShown}
 use Rattle.ps_vault.proofs.replays.follow_entry.Given as givens
 use Rattle.ps_vault.proofs.replays.follow_entry.Goals as goal
-use Rattle.ps_vault.proofs.replays.follow_entry.Goals.{After-steps-before, In-Ok, then-before-via-then-before, then-before-via-else-before+then-has_failed, then-entry-eq0-via-then-entry-eq0, then-entry-eq0-via-else-entry-eq0+then-not-is_ready}
+use Rattle.ps_vault.proofs.replays.follow_entry.Goals.{After-steps-before, In-Ok, then-is_held_up-via-then-is_held_up, then-is_held_up-via-else-is_held_up+then-has_failed, then-entry-eq0-via-then-entry-eq0, then-entry-eq0-via-else-entry-eq0+then-not-is_ready}
 
 pub returns-then-entry-eq0-clause-all : goal.returns-then-entry-eq0-clause-all
 returns-then-entry-eq0-clause-all g c = λ all. elim c.then-entry-eq0.branch [
@@ -51,7 +51,7 @@ returns-in-Ok-clause-all g c = λ all.
     sym c.is_ready-2.ensures.ready ∙ c.if-not-is_ready-2.false in
     let whole : c.steps-before.result.made ≡ c.args.entry.steps - 1 =
     all_made _ _ _ c.steps-before.ensures.within
-    (λ less. c.steps-before.ensures.unready c.if-before.false less
+    (λ less. c.steps-before.ensures.unready (sym c.is_held_up.ensures ∙ c.if-is_held_up.false) less
     (sym c.has_failed.ensures ∙ c.if-has_failed.false)) ready in
     let count : c.args.entry.steps ≡ suc (c.args.entry.steps - 1) =
     omega (arith, c.if-entry-eq0.false) in
@@ -88,16 +88,16 @@ returns-in-Ok-clause-shown g c = λ first has.
     (subst (λ (s : Story). HasShown first c.args.screen.now (world_at s).printed)
     (sym c.is_ready.ensures.same) has))
 
-pub returns-then-before-clause-starved : goal.returns-then-before-clause-starved
-returns-then-before-clause-starved g c = λ _ going. elim c.then-before.branch [
-  | then-before-via-then-before w ↦
+pub returns-then-is_held_up-clause-starved : goal.returns-then-is_held_up-clause-starved
+returns-then-is_held_up-clause-starved g c = λ _ going. elim c.then-is_held_up.branch [
+  | then-is_held_up-via-then-is_held_up w ↦
       let made = c.steps-before.result.made in
       let fewer : made + 1 < c.args.entry.steps =
-      omega (arith, c.steps-before.ensures.fewer w.if-before.true) in
+      omega (arith, c.steps-before.ensures.fewer (sym c.is_held_up.ensures ∙ w.if-is_held_up.true)) in
       subst (λ (refused : Bool). MayWant g.S.Interpret.asks true c.args.entry.context refused
       (world_at c.steps-before.new.vault)) (part_refused c.args.entry made fewer)
-      (c.steps-before.ensures.starved w.if-before.true)
-  | then-before-via-else-before+then-has_failed w ↦
+      (c.steps-before.ensures.starved (sym c.is_held_up.ensures ∙ w.if-is_held_up.true))
+  | then-is_held_up-via-else-is_held_up+then-has_failed w ↦
       absurd (true≢false (sym w.if-has_failed.true ∙ (w.has_failed.ensures ∙ going)))
 ]
 

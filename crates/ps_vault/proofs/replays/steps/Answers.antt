@@ -131,34 +131,34 @@ loop-made-preserved g c = record {
   shown = shown_more g (goal.at.loop-made-preserved g c).After-show_printed;
 }
 
-pub returns-in-HeldUp-clause-added : goal.returns-in-HeldUp-clause-added
-returns-in-HeldUp-clause-added g c =
-    added_on g (goal.at.returns-in-HeldUp-clause-added g c).After-advance-advanced
+pub returns-in-Err-clause-added : goal.returns-in-Err-clause-added
+returns-in-Err-clause-added g c =
+    added_on g (goal.at.returns-in-Err-clause-added g c).After-advance-advanced
 
-pub returns-in-HeldUp-clause-starved : goal.returns-in-HeldUp-clause-starved
-returns-in-HeldUp-clause-starved g c = λ _.
+pub returns-in-Err-clause-starved : goal.returns-in-Err-clause-starved
+returns-in-Err-clause-starved g c = λ _.
     may_want _ _ g.S.Interpret.asks c.args.context false
-    c.advance-advanced.new.self c.in-HeldUp.field-0 (λ m. plain_grows _ _ _ _)
-    (rw c.in-HeldUp.is at c.advance-advanced.ensures.held_up)
+    c.advance-advanced.new.self c.in-Err.reason (λ m. plain_grows _ _ _ _)
+    (rw c.in-Err.is at c.advance-advanced.ensures.held_up)
 
-pub returns-in-HeldUp-clause-longer : goal.returns-in-HeldUp-clause-longer
-returns-in-HeldUp-clause-longer g c =
-    longer_on g (goal.at.returns-in-HeldUp-clause-longer g c).After-advance-advanced
+pub returns-in-Err-clause-longer : goal.returns-in-Err-clause-longer
+returns-in-Err-clause-longer g c =
+    longer_on g (goal.at.returns-in-Err-clause-longer g c).After-advance-advanced
 
-pub returns-in-HeldUp-clause-world : goal.returns-in-HeldUp-clause-world
-returns-in-HeldUp-clause-world g c =
+pub returns-in-Err-clause-world : goal.returns-in-Err-clause-world
+returns-in-Err-clause-world g c =
     times_world c.args.vault.now c.advance-advanced.new.self
     (c.loop-made.made + c.advance-advanced.result.made) (plain_move c.args.context)
-    (program_on g (goal.at.returns-in-HeldUp-clause-world g c).After-advance-advanced)
-    (added_on g (goal.at.returns-in-HeldUp-clause-world g c).After-advance-advanced)
+    (program_on g (goal.at.returns-in-Err-clause-world g c).After-advance-advanced)
+    (added_on g (goal.at.returns-in-Err-clause-world g c).After-advance-advanced)
 
-pub returns-in-HeldUp-clause-fits : goal.returns-in-HeldUp-clause-fits
-returns-in-HeldUp-clause-fits g c =
-    fits_now g (goal.at.returns-in-HeldUp-clause-fits g c).After-advance-advanced
+pub returns-in-Err-clause-fits : goal.returns-in-Err-clause-fits
+returns-in-Err-clause-fits g c =
+    fits_now g (goal.at.returns-in-Err-clause-fits g c).After-advance-advanced
 
-pub returns-in-HeldUp-clause-shown : goal.returns-in-HeldUp-clause-shown
-returns-in-HeldUp-clause-shown g c =
-    shown_now g (goal.at.returns-in-HeldUp-clause-shown g c).After-advance-advanced
+pub returns-in-Err-clause-shown : goal.returns-in-Err-clause-shown
+returns-in-Err-clause-shown g c =
+    shown_now g (goal.at.returns-in-Err-clause-shown g c).After-advance-advanced
 
 -- ---- showing failed
 

@@ -10,7 +10,7 @@ pub returns-then-framed-clause-makes : goal.returns-then-framed-clause-makes
 returns-then-framed-clause-makes g c =
     rw c.requires.calling
     (run_left g.S.Interpret.asks _ _ c.args.identifier c.args.slot c.args.most
-    c.run_of-framed.result.run.made c.run_of-framed.result.run.next c.run_of-framed.result.framed
+    c.run_of-framed.result.0.made c.run_of-framed.result.0.next c.run_of-framed.result.1
     c.requires.steady c.requires.course
     (lends_desk c.args.identifier _ _ _ _ _ _ _ c.run_of-framed.ensures.lends) c.in_default.is
     c.if-framed.true)
@@ -27,7 +27,7 @@ returns-in_default-clause-makes g c =
       c.settle.ensures.faulted,
       c.requires.calling,
     )
-    (run_settles _ _ c.args.identifier c.run_of-framed.result.run.made c.requires.steady
+    (run_settles _ _ c.args.identifier c.run_of-framed.result.0.made c.requires.steady
     c.requires.course (rw c.in_default.is at (lends_runs _ _ _ _ _ _ _ _ _
     (lends_desk c.args.identifier _ _ _ _ _ _ _ c.run_of-framed.ensures.lends))))
 
@@ -50,7 +50,7 @@ pub returns-in-Err-clause-makes : goal.returns-in-Err-clause-makes
 returns-in-Err-clause-makes g c =
     rw c.requires.calling
     (behind_unmade g.S.Interpret.asks _ _ c.args.identifier c.args.slot
-    c.run_of-framed.result.run.made None c.requires.steady c.requires.course (Err c.in-Err.reason)
+    c.run_of-framed.result.0.made None c.requires.steady c.requires.course (Err c.in-Err.reason)
     (rw (c.in-Some.is, c.in-Err.is) at (lends_runs _ _ _ _ _ _ _ _ _
     (lends_desk c.args.identifier _ _ _ _ _ _ _ c.run_of-framed.ensures.lends)))
     g.met.S.Interpret.few refl c.in-Err.reason refl)
@@ -64,7 +64,7 @@ pub finish-told-requires-clause-steady : goal.finish-told-requires-clause-steady
 finish-told-requires-clause-steady g c =
     rw (c.shown_by-shown.ensures.heap, c.shown_by-shown.ensures.grants)
     (behind_is_steady g.S.Interpret.asks _ _ c.args.identifier c.args.slot
-    c.run_of-framed.result.run.made c.shown_by-shown.result c.requires.steady c.requires.course
+    c.run_of-framed.result.0.made c.shown_by-shown.result c.requires.steady c.requires.course
     (Ok c.in-Ok.turned) (rw (c.in-Some.is, c.in-Ok.is) at (lends_runs _ _ _ _ _ _ _ _ _
     (lends_desk c.args.identifier _ _ _ _ _ _ _ c.run_of-framed.ensures.lends))) c.in-Ok.turned refl)
 
@@ -76,7 +76,7 @@ returns-clause-shown g c =
 pub returns-clause-makes : goal.returns-clause-makes
 returns-clause-makes g c =
     behind_finishes g.S.Interpret.asks _ _ c.args.identifier c.args.slot
-    c.run_of-framed.result.run.made c.shown_by-shown.result c.requires.steady c.requires.course
+    c.run_of-framed.result.0.made c.shown_by-shown.result c.requires.steady c.requires.course
     (Ok c.in-Ok.turned) (rw (c.in-Some.is, c.in-Ok.is) at (lends_runs _ _ _ _ _ _ _ _ _
     (lends_desk c.args.identifier _ _ _ _ _ _ _ c.run_of-framed.ensures.lends)))
     c.args.shows c.shown_by-shown.ensures.shown c.shown_by-shown.ensures.counted

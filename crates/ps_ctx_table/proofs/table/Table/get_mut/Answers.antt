@@ -1,6 +1,6 @@
 use Rattle.std.proofs.Common.{◌≡◌, ◌<◌, length, get_or, Some, refl, sym, ap, subst, ◌∙◌, arith}
 use Rattle.ps_ctx_table.specs.Seats.{item_at, with_item}
-use Rattle.ps_ctx_table.proofs.Seated.{listed_found, listed_none, listed_set, search_found, search_none, none_left}
+use Rattle.ps_ctx_table.proofs.Seated.{listed_found, listed_none, listed_set, made-within, search_found, search_none, none_left}
 use Rattle.ps_ctx_table.proofs.table.Table.get_mut.Goals as goal
 use Rattle.ps_ctx_table.proofs.table.Table.get_mut.Goals.{in-Ok, in-Err}
 
@@ -55,5 +55,6 @@ returns g c =
             c.args.identifier c.match-place_of.place c.index_mut.result.now found.0 found.1
             c.index_mut.ensures.value
             ∙ ap (λ list. item_at list c.args.identifier) c.self.view_is;
+        within = made-within _ _ _ _ c.self.view_is c.self.invariant.0;
       },
     )

@@ -1,147 +1,180 @@
-use Rattle.std.proofs.Common.{◌+◌, List, length, sym, ap, ◌∙◌, subst, arith}
-use Rattle.ps_mem.specs.Heap.{Heap}
-use Rattle.ps_core_laws.specs.Memory.{heap_of}
-use Rattle.ps_core_laws.specs.Collected.{IsExact}
-use Rattle.ps_core_machine.specs.declared.events.Event.{Event}
-use Rattle.ps_core_machine.specs.declared.events.Vm.{Vm}
+use Rattle.std.proofs.Common.{◌≡◌, ◌+◌, ◌<◌, ℕ, [], length, replicate, false, Some, sym, ap, ◌∙◌, subst, arith}
+use Rattle.ps_core_machine.specs.declared.events.Event.TheVariants.{CycleStore}
 use Rattle.ps_core_machine.specs.declared.events.Gc.{Gc}
-use Rattle.ps_core_machine.specs.Objects.{among, addresses_named, values_have_replicas}
+use Rattle.ps_core_machine.specs.declared.events.Pair.{Pair}
+use Rattle.ps_core_machine.specs.declared.events.Vm.{Vm}
+use Rattle.ps_core_machine.specs.Conditions.{VmMay, GcMay, AllClosed}
+use Rattle.ps_core_machine.specs.Objects.{pair_of}
+use Rattle.ps_core_machine.specs.Steps.{vm_after, gc_after, knows_open}
 use Rattle.ps_core_laws.specs.Stores.{numbers}
-use Rattle.ps_table.specs.Events.{OnlyLooks}
+use Rattle.ps_core_laws.proofs.HeapTests.{number_is}
+use Rattle.ps_table.proofs.Facts.{knows}
 use Rattle.ps_table.specs.Shown.{BothRun}
-use Rattle.ps_table.proofs.Looking.{more_looks, no_gc_look, no_looks, one_look}
-use Rattle.ps_gc.specs.Flipping.{MayFlip}
-use Rattle.ps_gc.proofs.Flipping.{all_drained}
-use Rattle.ps_gc.proofs.Scanning.{all_at_end, not_all}
+use Rattle.ps_gc.specs.Flipping.{Answers, MayFlip, flip_but_for}
+use Rattle.ps_gc.specs.Keeps.{Copies, CopiesAre, Takes}
+use Rattle.ps_gc.proofs.Flipping.{meets, flip_knows, copies_none, takes_turned}
+use Rattle.ps_gc.proofs.Seen.{no_flip, flip_is, flip_exact}
 use Rattle.ps_gc.proofs.collector.Collector.joined_try_flip.Goals as goal
 
-pub returns-then-self-clause-answer : goal.returns-then-self-clause-answer
-returns-then-self-clause-answer g c =
-    let s = c.args.self.now in
-    let v = s.gc.seat.me.0.vm in
-    let part = s.gc.seat.me.0.gc in (
-      (
-        c.all_closed.ensures.0 c.if-not-all_closed.false,
-        all_drained v part c.meet.ensures.runs (λ slot lt. sym (s.takes.numbers_are slot lt)
-            ∙ c.all_taken.ensures.0 c.if-not-all_taken.false slot lt),
-      ),
-      not_all part s.gc.runs s.to s.copies s.field c.if-self.true,
-    )
+-- ---- something hinders it
 
-pub returns-then-not-have_replicas-clause-answer :
-    goal.returns-then-not-have_replicas-clause-answer
-returns-then-not-have_replicas-clause-answer g c =
-    let s = c.args.self.now in
-    let v = s.gc.seat.me.0.vm in
-    let part = s.gc.seat.me.0.gc in (
-      (
-        (
-          c.all_closed.ensures.0 c.if-not-all_closed.false,
-          all_drained v part c.meet.ensures.runs (λ slot lt. sym (s.takes.numbers_are slot lt)
-              ∙ c.all_taken.ensures.0 c.if-not-all_taken.false slot lt),
-        ),
-        all_at_end part s.gc.runs s.to s.copies c.if-self.false,
-      ),
-      ap (λ (x : Gc). values_have_replicas x.pairs (numbers c.args.roots.now))
-          (sym c.meet.ensures.parts.1)
-          ∙ (sym c.have_replicas.ensures.answer ∙ c.if-not-have_replicas.true),
-    )
-
-pub returns-clause-answer : goal.returns-clause-answer
-returns-clause-answer g c =
-    let s = c.args.self.now in
-    let v = s.gc.seat.me.0.vm in
-    let part = s.gc.seat.me.0.gc in (
-      (
-        (
-          c.all_closed.ensures.0 c.if-not-all_closed.false,
-          all_drained v part c.meet.ensures.runs (λ slot lt. sym (s.takes.numbers_are slot lt)
-              ∙ c.all_taken.ensures.0 c.if-not-all_taken.false slot lt),
-        ),
-        all_at_end part s.gc.runs s.to s.copies c.if-self.false,
-      ),
-      ap (λ (x : Gc). values_have_replicas x.pairs (numbers c.args.roots.now))
-          (sym c.meet.ensures.parts.1)
-          ∙ (sym c.have_replicas.ensures.answer ∙ c.if-not-have_replicas.false),
-    )
-
-pub flip-requires-clause-ready : goal.flip-requires-clause-ready
-flip-requires-clause-ready g c =
-    let s = c.args.self.now in
-    let v = s.gc.seat.me.0.vm in
-    let part = s.gc.seat.me.0.gc in
-    let vm = c.have_replicas.ensures.parts.0 ∙ c.meet.ensures.parts.0 in
-    let gc = c.have_replicas.ensures.parts.1 ∙ c.meet.ensures.parts.1 in
-    let ready : MayFlip v part (numbers c.args.roots.now) = (
-      (
-        (
-          c.all_closed.ensures.0 c.if-not-all_closed.false,
-          all_drained v part c.meet.ensures.runs (λ slot lt. sym (s.takes.numbers_are slot lt)
-              ∙ c.all_taken.ensures.0 c.if-not-all_taken.false slot lt),
-        ),
-        all_at_end part s.gc.runs s.to s.copies c.if-self.false,
-      ),
-      ap (λ (x : Gc). values_have_replicas x.pairs (numbers c.args.roots.now))
-          (sym c.meet.ensures.parts.1)
-          ∙ (sym c.have_replicas.ensures.answer ∙ c.if-not-have_replicas.false),
-    ) in
-    subst (λ (x : Vm × Gc). MayFlip x.0 x.1 (numbers c.args.roots.now))
-    (λ i. (sym vm i, sym gc i)) ready
-
-pub flip-requires-clause-runs : goal.flip-requires-clause-runs
-flip-requires-clause-runs g c =
-    let vm = c.have_replicas.ensures.parts.0 ∙ c.meet.ensures.parts.0 in
-    let gc = c.have_replicas.ensures.parts.1 ∙ c.meet.ensures.parts.1 in
-    subst (λ (x : Vm × Gc). BothRun x.0 x.1) (λ i. (sym vm i, sym gc i)) c.meet.ensures.runs
-
-pub returns-clause-exact : goal.returns-clause-exact
-returns-clause-exact g c = λ done none same.
-    let vm = c.have_replicas.ensures.parts.0 ∙ c.meet.ensures.parts.0 in
-    let gc = c.have_replicas.ensures.parts.1 ∙ c.meet.ensures.parts.1 in
-    subst (λ (h : Heap). IsExact h (heap_of c.flip.new.self.gc.seat.me.0.vm) c.args.roots.now
-    c.flip.new.roots) (ap heap_of vm)
-    (c.flip.ensures.exact (ap (λ (v : Vm). v.stored) vm ∙ none)
-    (λ a. ap (λ (x : Gc). among (addresses_named x.handed) a) gc ∙ same a))
-
--- ---- which events there were
-
-pub returns-then-not-all_closed-clause-steps : goal.returns-then-not-all_closed-clause-steps
-returns-then-not-all_closed-clause-steps g c = (no_looks _ _, no_looks _ _)
-
-pub returns-then-not-all_taken-clause-steps : goal.returns-then-not-all_taken-clause-steps
-returns-then-not-all_taken-clause-steps g c = (no_looks _ _, no_looks _ _)
-
-pub returns-then-self-clause-steps : goal.returns-then-self-clause-steps
-returns-then-self-clause-steps g c =
+pub returns-in-Some-clause-answer : goal.returns-in-Some-clause-answer
+returns-in-Some-clause-answer g c =
     let m = c.args.self.now.gc.seat.me.0 in
-    let look = c.meet.ensures.looks in (
-      more_looks 1 0 (length c.args.roots.now + 2) m.vm_events _ _ (omega arith)
-          (one_look _ _ _ _ look) (no_looks 0 _),
-      subst (OnlyLooks (length c.args.roots.now + 1) m.gc_events)
-          (sym (no_gc_look _ _ _ _ look)) (no_looks _ m.gc_events),
+    subst (λ r. Answers m.vm m.gc (numbers c.args.roots.now) (flip_but_for r)) c.in-Some.is
+    c.hindrance.ensures.answer
+
+pub returns-in-Some-clause-flips : goal.returns-in-Some-clause-flips
+returns-in-Some-clause-flips g c =
+    let k = c.hindrance.ensures in
+    no_flip c.args.self.now.gc.seat.me.0 c.hindrance.new.self.gc.seat.me.0 c.args.roots.now
+    c.in-Some.why k.parts.0 k.steps.0 k.steps.1
+
+-- ---- nothing does
+
+pub store_cycle-requires-clause-vm : goal.store_cycle-requires-clause-vm
+store_cycle-requires-clause-vm g c =
+    let m = c.args.self.now.gc.seat.me.0 in
+    let k = c.hindrance.ensures in
+    let ready : MayFlip m.vm m.gc (numbers c.args.roots.now) =
+    subst (λ r. Answers m.vm m.gc (numbers c.args.roots.now) (flip_but_for r)) c.in-None.is
+    k.answer in
+    let may : VmMay m.vm (CycleStore (numbers c.args.roots.now)) =
+    (c.requires.«open», ready.0.0.0, c.requires.sits.mirrors.settled) in
+    subst (λ (x : Vm). VmMay x (CycleStore (numbers c.args.roots.now))) (sym k.parts.0) may
+
+pub store_cycle-requires-clause-gc : goal.store_cycle-requires-clause-gc
+store_cycle-requires-clause-gc g c =
+    let m = c.args.self.now.gc.seat.me.0 in
+    let s = c.args.self.now in
+    let k = c.hindrance.ensures in
+    let ready : MayFlip m.vm m.gc (numbers c.args.roots.now) =
+    subst (λ r. Answers m.vm m.gc (numbers c.args.roots.now) (flip_but_for r)) c.in-None.is
+    k.answer in
+    let may : GcMay m.gc (CycleStore (numbers c.args.roots.now)) =
+    (s.idle.0, s.idle.1, ready.0.1, ready.1) in
+    subst (λ (x : Gc). GcMay x (CycleStore (numbers c.args.roots.now))) (sym k.parts.1) may
+
+pub store_cycle-requires-clause-drained : goal.store_cycle-requires-clause-drained
+store_cycle-requires-clause-drained g c =
+    let m = c.args.self.now.gc.seat.me.0 in
+    let k = c.hindrance.ensures in
+    let ready : MayFlip m.vm m.gc (numbers c.args.roots.now) =
+    subst (λ r. Answers m.vm m.gc (numbers c.args.roots.now) (flip_but_for r)) c.in-None.is
+    k.answer in
+    ap (λ (x : Gc). x.taken) k.parts.1
+    ∙ (ready.0.0.1 ∙ ap (λ (x : Vm). x.logs) (sym k.parts.0))
+
+pub store_cycle-requires-clause-meet : goal.store_cycle-requires-clause-meet
+store_cycle-requires-clause-meet g c =
+    let k = c.hindrance.ensures in
+    meets _ _ (subst (λ (x : Vm × Gc). BothRun x.0 x.1)
+    (λ i. (sym k.parts.0 i, sym k.parts.1 i)) (k.runs c.in-None.is))
+
+pub overflow_add-self : goal.overflow_add-self
+overflow_add-self g c =
+    let m = c.args.self.now.gc.seat.me.0 in
+    let k = c.hindrance.ensures in
+    let small = (knows m.vm c.requires.sits.runs).cycles.small in
+    let epoch = number_is m.vm.epoch (m.vm.cycle + 1) c.requires.«open» in
+    let same = (meets m.vm m.gc (k.runs c.in-None.is)).1 in
+    let is = c.hindrance.new.self.copies.cycle_is in
+    let part = ap (λ (x : Gc). x.cycle) k.parts.1 in
+    omega arith
+
+pub invariant_of-self : goal.invariant_of-self
+invariant_of-self g c =
+    let m = c.args.self.now.gc.seat.me.0 in
+    let s = c.hindrance.new.self in
+    let v = s.gc.seat.me.0.vm in
+    let part = c.store_cycle.ensures.parts.1 in
+    let k = c.hindrance.ensures in
+    let ready : MayFlip m.vm m.gc (numbers c.args.roots.now) =
+    subst (λ r. Answers m.vm m.gc (numbers c.args.roots.now) (flip_but_for r)) c.in-None.is
+    k.answer in
+    let closed : AllClosed v = subst AllClosed (sym k.parts.0) ready.0.0.0 in
+    let drained = ap (λ (x : Gc). x.taken) k.parts.1
+    ∙ (ready.0.0.1 ∙ ap (λ (x : Vm). x.logs) (sym k.parts.0)) in
+    let low : ℕ = c.low-low.result in
+    let opened = number_is m.vm.epoch (m.vm.cycle + 1) c.requires.«open» in
+    let same = (meets m.vm m.gc (k.runs c.in-None.is)).1 in
+    let epoch = ap (λ (x : Vm). x.epoch) k.parts.0 in
+    let cycle = ap (λ (x : Gc). x.cycle) k.parts.1 in
+    record {
+      copies = subst (λ (x : Gc). Copies x (record {
+        space = s.to.space;
+        cycle = s.to.cycle + 1;
+        end = low;
+        at = low;
+        field = 0;
+      })) (sym part) (subst (λ (x : ℕ × ℕ). CopiesAre x.0 (x.1 + 1) []
+          (record {
+            space = s.to.space;
+            cycle = s.to.cycle + 1;
+            end = low;
+            at = low;
+            field = 0;
+          })) (λ i. (s.copies.space_is i, s.copies.cycle_is i))
+          (copies_none s.to.space (s.to.cycle + 1) low c.low-low.ensures));
+      field = subst (λ (x : Gc). (a : ℕ) (p : Pair) → pair_of x.pairs a ≡ Some p
+          → p.replica ≡ low → 0 < length p.fields) (sym part) (λ a p e. absurd (cc));
+      takes = subst (λ (x : Gc). Takes x (record s.taken { closed = replicate 32 false }))
+          (sym part)
+          (takes_turned v s.gc.seat.me.0.gc s.taken s.takes closed drained (omega arith));
+      idle = (
+        ap (λ (x : Gc). x.taking) part ∙ s.idle.0,
+        ap (λ (x : Gc). x.copying) part ∙ s.idle.1,
+      );
+    }
+
+pub returns-in-None-clause-answer : goal.returns-in-None-clause-answer
+returns-in-None-clause-answer g c =
+    let m = c.args.self.now.gc.seat.me.0 in
+    subst (λ r. Answers m.vm m.gc (numbers c.args.roots.now) (flip_but_for r)) c.in-None.is
+    c.hindrance.ensures.answer
+
+pub returns-in-None-clause-flips : goal.returns-in-None-clause-flips
+returns-in-None-clause-flips g c =
+    let m = c.args.self.now.gc.seat.me.0 in
+    let s = c.args.self.now in
+    let k = c.hindrance.ensures in
+    let f = c.store_cycle.ensures in
+    let ready : MayFlip m.vm m.gc (numbers c.args.roots.now) =
+    subst (λ r. Answers m.vm m.gc (numbers c.args.roots.now) (flip_but_for r)) c.in-None.is
+    k.answer in
+    flip_is m c.hindrance.new.self.gc.seat.me.0 c.store_cycle.new.self.seat.me.0
+    c.args.roots.now c.store_cycle.new.roots k.parts.0 k.parts.1 k.steps.0 k.steps.1
+    (k.runs c.in-None.is) (c.requires.«open», ready.0.0.0, c.requires.sits.mirrors.settled)
+    (s.idle.0, s.idle.1, ready.0.1, ready.1) ready.0.0.1 f.did f.parts.0 f.renamed
+
+pub returns-in-None-clause-parts : goal.returns-in-None-clause-parts
+returns-in-None-clause-parts g c = λ done.
+    let k = c.hindrance.ensures in
+    let f = c.store_cycle.ensures.parts in
+    let event = CycleStore (numbers c.args.roots.now) in (
+      f.0 ∙ (λ i. vm_after (k.parts.0 i) (k.parts.1 i) event),
+      f.1 ∙ (λ i. gc_after (k.parts.1 i) (k.parts.0 i) event),
     )
 
-pub returns-then-not-have_replicas-clause-steps : goal.returns-then-not-have_replicas-clause-steps
-returns-then-not-have_replicas-clause-steps g c =
+pub returns-in-None-clause-knows : goal.returns-in-None-clause-knows
+returns-in-None-clause-knows g c = λ done.
     let m = c.args.self.now.gc.seat.me.0 in
-    let look = c.meet.ensures.looks in (
-      more_looks 1 (length c.args.roots.now) (length c.args.roots.now + 2) m.vm_events _ _
-          (omega arith) (one_look _ _ _ _ look) c.have_replicas.ensures.steps.0,
-      subst (OnlyLooks (length c.args.roots.now + 1) m.gc_events)
-          (sym (c.have_replicas.ensures.steps.1 ∙ no_gc_look _ _ _ _ look))
-          (no_looks _ m.gc_events),
-    )
+    let k = c.hindrance.ensures in
+    let event = CycleStore (numbers c.args.roots.now) in
+    ap knows_open (c.store_cycle.ensures.parts.1
+    ∙ (λ i. gc_after (k.parts.1 i) (k.parts.0 i) event))
+    ∙ flip_knows m.vm m.gc (numbers c.args.roots.now) (k.runs c.in-None.is) c.requires.«open»
 
-pub returns-clause-steps : goal.returns-clause-steps
-returns-clause-steps g c =
+pub returns-in-None-clause-exact : goal.returns-in-None-clause-exact
+returns-in-None-clause-exact g c = λ done.
     let m = c.args.self.now.gc.seat.me.0 in
-    let roots = length c.args.roots.now in
-    let look = c.meet.ensures.looks in (
-      more_looks (roots + 1) 1 (roots + 2) m.vm_events _ _ (omega arith)
-          (more_looks 1 roots (roots + 1) m.vm_events _ _ (omega arith)
-          (one_look _ _ _ _ look) c.have_replicas.ensures.steps.0)
-          c.flip.ensures.steps.0,
-      subst (λ (before : List Event). OnlyLooks (roots + 1) before
-          c.flip.new.self.gc.seat.me.0.gc_events)
-          (c.have_replicas.ensures.steps.1 ∙ no_gc_look _ _ _ _ look) c.flip.ensures.steps.1,
-    )
+    let s = c.args.self.now in
+    let k = c.hindrance.ensures in
+    let f = c.store_cycle.ensures in
+    let ready : MayFlip m.vm m.gc (numbers c.args.roots.now) =
+    subst (λ r. Answers m.vm m.gc (numbers c.args.roots.now) (flip_but_for r)) c.in-None.is
+    k.answer in
+    flip_exact m c.hindrance.new.self.gc.seat.me.0 c.store_cycle.new.self.seat.me.0
+    c.args.roots.now c.store_cycle.new.roots k.parts.0 k.parts.1 k.steps.0 k.steps.1
+    (k.runs c.in-None.is) (c.requires.«open», ready.0.0.0, c.requires.sits.mirrors.settled)
+    (s.idle.0, s.idle.1, ready.0.1, ready.1) ready.0.0.1 f.did f.parts.0 f.renamed

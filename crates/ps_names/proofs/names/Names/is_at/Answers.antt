@@ -7,8 +7,8 @@ use Rattle.ps_names.specs.Names.{place_of}
 use Rattle.ps_names.proofs.Places.{stands_at}
 use Rattle.ps_names.proofs.names.Names.is_at.Goals as goal
 
-pub returns-then-from-len : goal.returns-then-from-len
-returns-then-from-len c =
+pub returns-then-from-len-clause-is : goal.returns-then-from-len-clause-is
+returns-then-from-len-clause-is c =
     let same = slice_eq-Decides Decides-eqb c.text.result.now c.args.text.now c.eq.result c.eq.ensures in (
       (λ is. ap (λ t. place_of t c.args.self.now) (sym (same.0 is))
           ∙ c.text.ensures.found (rw (← c.len.ensures.count, ← c.from.ensures) c.if-from-len.true)),

@@ -1,7 +1,7 @@
 -- Each is new, and the last has the highest number.
 use Rattle.std.proofs.Common.{◌≡◌, ◌∙◌, ap, arith}
 use Rattle.std.proofs.lemmas.Bool.Decides.{nat_tests}
-use Rattle.ps_names.proofs.FirstNames.{all_met, first_met, met_next}
+use Rattle.ps_names.proofs.FirstNames.{all_met, first_count, first_met, met_next}
 use Rattle.ps_names.proofs.names.Names.with_first.Goals as goal
 
 pub loop-number-preserved : goal.loop-number-preserved
@@ -11,6 +11,6 @@ loop-number-preserved c =
 
 pub returns : goal.returns
 returns c =
-    let last : c.loop-number.number ≡ 134 =
+    let last : c.loop-number.number ≡ first_count =
     grind (arith, nat_tests, c.loop-number-test.false, c.loop-number.auto.number-end) in
     c.loop-number.invariant ∙ ap first_met last ∙ all_met

@@ -38,11 +38,11 @@ overflow_add-self g c =
     (sym c.self.view_is) (omega (arith, c.requires.left, c.advance-advanced.ensures.within))) in
     omega (arith, fits)
 
-pub returns-in-HeldUp-clause-stays : goal.returns-in-HeldUp-clause-stays
-returns-in-HeldUp-clause-stays g c = λ held one.
+pub returns-in-Err-clause-stays : goal.returns-in-Err-clause-stays
+returns-in-Err-clause-stays g c = λ held one.
     let reserved : Story = c.reserve_entries.new.self in
     let fewer : c.advance-advanced.result.made < c.args.most =
-    c.advance-advanced.ensures.fewer (rw c.in-HeldUp.is refl) in
+    c.advance-advanced.ensures.fewer (rw c.in-Err.is refl) in
     let none : c.advance-advanced.result.made ≡ 0 = omega (arith, fewer, one) in
     world_stays reserved c.advance-advanced.new.self c.args.context
     c.advance-advanced.result.made c.advance-advanced.ensures.program
@@ -99,12 +99,12 @@ kept g c waits = subst (λ (o : Option Outcome). Keeps g.S.Interpret.asks g.O.Or
     (keeps_made g.S.Interpret.asks g.O.Origin.start (before g c) c.advance-advanced.new.self
     c.advance-advanced.result.made None c.self.invariant (goes g c) (within_now g c) waits tt)
 
-pub invariant_of-self-in-HeldUp : goal.invariant_of-self-in-HeldUp
-invariant_of-self-in-HeldUp g c =
-    let at = (goal.at.invariant_of-self-in-HeldUp g c).After-advance-advanced in
-    let held = rw c.in-HeldUp.is at c.advance-advanced.ensures.held_up in
+pub invariant_of-self-in-Err : goal.invariant_of-self-in-Err
+invariant_of-self-in-Err g c =
+    let at = (goal.at.invariant_of-self-in-Err g c).After-advance-advanced in
+    let held = rw c.in-Err.is at c.advance-advanced.ensures.held_up in
     let fewer : c.advance-advanced.result.made < c.args.most =
-    c.advance-advanced.ensures.fewer (rw c.in-HeldUp.is refl) in
+    c.advance-advanced.ensures.fewer (rw c.in-Err.is refl) in
     kept g at (waits_as (come_to (before g at) c.advance-advanced.new.self
     (c.self.inside.made + c.advance-advanced.result.made) None) c.args.context (record {
       calling = c.advance-advanced.ensures.calling;
@@ -113,12 +113,9 @@ invariant_of-self-in-HeldUp g c =
           (sym c.self.view_is) (omega (arith, c.requires.left, fewer));
     }))
 
-pub invariant_of-self-in-Goes : goal.invariant_of-self-in-Goes
-invariant_of-self-in-Goes g c =
-    let at = (goal.at.invariant_of-self-in-Goes g c).After-advance-advanced in
+pub invariant_of-self-in-Ok : goal.invariant_of-self-in-Ok
+invariant_of-self-in-Ok g c =
+    let at = (goal.at.invariant_of-self-in-Ok g c).After-advance-advanced in
     kept g at (waits_none (come_to (before g at) c.advance-advanced.new.self
     (c.self.inside.made + c.advance-advanced.result.made) None)
-    (c.advance-advanced.ensures.calling_on (elim c.in-Goes.is [
-      | inl is ↦ rw is refl
-      | inr is ↦ rw is refl
-    ])))
+    (c.advance-advanced.ensures.calling_on (rw c.in-Ok.is refl)))

@@ -8,7 +8,7 @@ use Rattle.ps_language.specs.Locks.{is_ready}
 use Rattle.ps_language.specs.Schedules.{Move, plain_move, count_of, moves}
 use Rattle.ps_language.specs.Worlds.{starting_world, world}
 use Rattle.ps_language.proofs.ScheduleLaws.{count_of-added}
-use Rattle.ps_ctx.specs.Notes.{note_of}
+use Rattle.ps_ctx.specs.declared.notes.Note.{Note}
 use Rattle.ps_ctx.specs.Steps.{shown_words}
 use Rattle.ps_run_schedules.specs.Keeping.{Kept, MayAdd}
 use Rattle.ps_run_schedules.specs.Turns.{added_times, free_steps, move_of}
@@ -22,7 +22,7 @@ use Rattle.ps_mem.specs.Heap.{Space}
 use Rattle.ps_vault.proofs.Keeping.{caller_there, kept_same, may_step}
 use Rattle.ps_vault.proofs.Reasons.{for_room}
 use Rattle.ps_vault.proofs.Noting.{HasNoted, may_note, longer_noted}
-use Rattle.ps_vault.proofs.Advancing.{keeps_made, count_times, move_fits, all_added, all_times, some_made, tell_made, nothing_ends, nothing_wishes, ends_noted, wish_noted, no_wish_noted, last_made, alone_made, same_space, warranted_made}
+use Rattle.ps_vault.proofs.Advancing.{keeps_made, count_times, move_fits, all_added, all_times, some_made, tell_made, nothing_ends, nothing_wishes, ends_noted, ends_told, wish_noted, no_wish_noted, last_made, alone_made, same_space, warranted_made}
 use Rattle.ps_vault.proofs.Behind.{tell_mid, tell_behind, others_behind, keeps_behind, ends_behind, keeps_held, held_behind, last_mid, shown_behind, alone_mid, alone_behind, left_held, same_space_behind, warranted_held, warranted_behind, words_behind}
 use Rattle.ps_vault.proofs.Showing.{kept_none}
 use Rattle.ps_vault.proofs.Ordering.{adds_times, adds_one, adds_more}
@@ -206,7 +206,7 @@ returns-in_default-clause-flips g c =
 pub invariant_of-self-in-Err : goal.invariant_of-self-in-Err
 invariant_of-self-in-Err g c =
     rw c.note_turn.ensures.added
-    (keeps_held g.S.Interpret.asks c.args.context c.slot_of.result c.go_on-made.result.made c.in-Some.next.shown
+    (keeps_held g.S.Interpret.asks c.args.context c.slot_of.result c.go_on-made.result.made c.in-Some.shown
     _ _ c.self.inside.schedule.items c.self.invariant
     (ready_before g (goal.at.invariant_of-self-in-Err g c).After-go_on-made)
     c.in-Err.reason (rw (c.in-Some.is, c.in-Err.is) at c.go_on-made.ensures.makes))
@@ -233,7 +233,7 @@ pub returns-in-Err-clause-held_up : goal.returns-in-Err-clause-held_up
 returns-in-Err-clause-held_up g c =
     rw c.note_turn.ensures.added
     (held_behind g.S.Interpret.asks c.args.context c.slot_of.result c.go_on-made.result.made
-    c.in-Some.next.shown _ _ c.self.inside.schedule.items c.self.invariant
+    c.in-Some.shown _ _ c.self.inside.schedule.items c.self.invariant
     (ready_before g (goal.at.returns-in-Err-clause-held_up g c).After-go_on-made)
     c.in-Err.reason (rw (c.in-Some.is, c.in-Err.is) at c.go_on-made.ensures.makes)
     g.M.Memory.heap g.M.Memory.grants _ _ refl refl
@@ -252,7 +252,7 @@ returns-in-Err-clause-keeps g c = λ _.
     (moves c.note_turn.new.self.items))
     (rw c.note_turn.ensures.added
     (tell_mid g.S.Interpret.asks c.args.context c.slot_of.result c.go_on-made.result.made
-    c.in-Some.next.shown _ _ c.self.inside.schedule.items c.self.invariant
+    c.in-Some.shown _ _ c.self.inside.schedule.items c.self.invariant
     (ready_before g (goal.at.returns-in-Err-clause-keeps g c).After-go_on-made) (Err c.in-Err.reason)
     (rw (c.in-Some.is, c.in-Err.is) at c.go_on-made.ensures.makes) IsNoEnd nothing_ends))
 
@@ -263,7 +263,7 @@ returns-in-Err-clause-wish g c =
     (moves c.note_turn.new.self.items))
     (rw c.note_turn.ensures.added
     (tell_mid g.S.Interpret.asks c.args.context c.slot_of.result c.go_on-made.result.made
-    c.in-Some.next.shown _ _ c.self.inside.schedule.items c.self.invariant
+    c.in-Some.shown _ _ c.self.inside.schedule.items c.self.invariant
     (ready_before g (goal.at.returns-in-Err-clause-wish g c).After-go_on-made) (Err c.in-Err.reason)
     (rw (c.in-Some.is, c.in-Err.is) at c.go_on-made.ensures.makes) IsNoWish nothing_wishes))
 
@@ -273,7 +273,7 @@ returns-in-Err-clause-alone g c = λ left.
     of_story g at (λ p entries. AllOfOne c.args.context (starting_world p) (moves entries)
     (moves c.note_turn.new.self.items))
     (rw c.note_turn.ensures.added
-    (alone_mid g.S.Interpret.asks c.args.context c.slot_of.result c.go_on-made.result.made c.in-Some.next.shown
+    (alone_mid g.S.Interpret.asks c.args.context c.slot_of.result c.go_on-made.result.made c.in-Some.shown
     _ _ c.self.inside.schedule.items c.self.invariant
     (ready_before g (goal.at.returns-in-Err-clause-alone g c).After-go_on-made)
     (Err c.in-Err.reason)
@@ -283,7 +283,7 @@ pub returns-in-Err-clause-left : goal.returns-in-Err-clause-left
 returns-in-Err-clause-left g c = λ held left.
     let at = (goal.at.returns-in-Err-clause-left g c).After-note_turn in
     rw c.note_turn.ensures.added
-    (left_held g.S.Interpret.asks c.args.context c.slot_of.result c.go_on-made.result.made c.in-Some.next.shown
+    (left_held g.S.Interpret.asks c.args.context c.slot_of.result c.go_on-made.result.made c.in-Some.shown
     _ _ c.self.inside.schedule.items c.self.invariant
     (ready_before g (goal.at.returns-in-Err-clause-left g c).After-go_on-made) c.in-Err.reason
     (rw (c.in-Some.is, c.in-Err.is) at c.go_on-made.ensures.makes) (only_inside g at left))
@@ -292,7 +292,7 @@ pub returns-in-Err-clause-warranted : goal.returns-in-Err-clause-warranted
 returns-in-Err-clause-warranted g c = λ _ all.
     rw c.note_turn.ensures.added
     (warranted_held g.S.Interpret.asks c.args.context c.slot_of.result c.go_on-made.result.made
-    c.in-Some.next.shown _ _ c.self.inside.schedule.items c.self.invariant
+    c.in-Some.shown _ _ c.self.inside.schedule.items c.self.invariant
     (ready_before g (goal.at.returns-in-Err-clause-warranted g c).After-go_on-made) c.in-Err.reason
     (rw (c.in-Some.is, c.in-Err.is) at c.go_on-made.ensures.makes)
     (warranted_inside g (goal.at.returns-in-Err-clause-warranted g c).After-note_turn all))
@@ -305,7 +305,7 @@ returns-in-Err-clause-shown g c = λ some.
     (moves c.note_turn.new.self.items))
     (rw c.note_turn.ensures.added
     (last_mid g.S.Interpret.asks c.args.context c.slot_of.result c.go_on-made.result.made
-    c.in-Some.next.shown _ _ c.self.inside.schedule.items c.self.invariant
+    c.in-Some.shown _ _ c.self.inside.schedule.items c.self.invariant
     (ready_before g (goal.at.returns-in-Err-clause-shown g c).After-go_on-made) (Err c.in-Err.reason)
     (rw (c.in-Some.is, c.in-Err.is) at c.go_on-made.ensures.makes) _ some))
 
@@ -313,7 +313,7 @@ pub returns-in-Err-clause-space : goal.returns-in-Err-clause-space
 returns-in-Err-clause-space g c =
     ap (λ (s : Space). s.size)
     (same_space_behind g.S.Interpret.asks c.args.context c.slot_of.result c.go_on-made.result.made
-    c.in-Some.next.shown _ _ c.self.inside.schedule.items c.self.invariant
+    c.in-Some.shown _ _ c.self.inside.schedule.items c.self.invariant
     (ready_before g (goal.at.returns-in-Err-clause-space g c).After-go_on-made) (Err c.in-Err.reason)
     (rw (c.in-Some.is, c.in-Err.is) at c.go_on-made.ensures.makes))
     ∙ ap (λ (s : Story). s.space) c.self.view_is
@@ -322,7 +322,7 @@ pub returns-in-Err-clause-flips : goal.returns-in-Err-clause-flips
 returns-in-Err-clause-flips g c =
     ap (λ (s : Space). s.flips)
     (same_space_behind g.S.Interpret.asks c.args.context c.slot_of.result c.go_on-made.result.made
-    c.in-Some.next.shown _ _ c.self.inside.schedule.items c.self.invariant
+    c.in-Some.shown _ _ c.self.inside.schedule.items c.self.invariant
     (ready_before g (goal.at.returns-in-Err-clause-flips g c).After-go_on-made) (Err c.in-Err.reason)
     (rw (c.in-Some.is, c.in-Err.is) at c.go_on-made.ensures.makes))
     ∙ ap (λ (s : Story). s.flips) c.self.view_is
@@ -333,9 +333,9 @@ pub invariant_of-self-2 : goal.invariant_of-self-2
 invariant_of-self-2 g c =
     rw (c.note.ensures.added, c.note_turn.ensures.added)
     (keeps_behind g.S.Interpret.asks c.args.context c.slot_of.result c.go_on-made.result.made
-    c.in-Some.next.shown _ _ c.self.inside.schedule.items c.self.invariant
+    c.in-Some.shown _ _ c.self.inside.schedule.items c.self.invariant
     (ready_before g (goal.at.invariant_of-self-2 g c).After-go_on-made)
-    c.in-Ok.told (rw (c.in-Some.is, c.in-Ok.is) at c.go_on-made.ensures.makes)
+    c.in-Ok.note (rw (c.in-Some.is, c.in-Ok.is) at c.go_on-made.ensures.makes)
     c.kept-kept.result c.kept-kept.ensures)
 
 pub returns-clause-counted : goal.returns-clause-counted
@@ -365,9 +365,9 @@ behind_fits g c =
     (let few = c.ranges.context.fits in omega (arith, few))
     (subst (λ (shown : Option (ℤ × ℤ)). are_words shown ≡ true) (sym c.kept-kept.ensures)
     (words_behind g.S.Interpret.asks c.args.context c.slot_of.result c.go_on-made.result.made
-    c.in-Some.next.shown _ _ c.self.inside.schedule.items c.self.invariant
+    c.in-Some.shown _ _ c.self.inside.schedule.items c.self.invariant
     (ready_before g (goal.at.After-note g c).After-go_on-made)
-    c.in-Ok.told (rw (c.in-Some.is, c.in-Ok.is) at c.go_on-made.ensures.makes)))
+    c.in-Ok.note (rw (c.in-Some.is, c.in-Ok.is) at c.go_on-made.ensures.makes)))
 
 pub returns-clause-ordinary : goal.returns-clause-ordinary
 returns-clause-ordinary g c =
@@ -385,9 +385,9 @@ pub returns-clause-warranted : goal.returns-clause-warranted
 returns-clause-warranted g c = λ shows all.
     rw (c.note.ensures.added, c.note_turn.ensures.added)
     (warranted_behind g.S.Interpret.asks c.args.context c.slot_of.result c.go_on-made.result.made
-    c.in-Some.next.shown _ _ c.self.inside.schedule.items c.self.invariant
+    c.in-Some.shown _ _ c.self.inside.schedule.items c.self.invariant
     (ready_before g (goal.at.returns-clause-warranted g c).After-go_on-made)
-    c.in-Ok.told (rw (c.in-Some.is, c.in-Ok.is) at c.go_on-made.ensures.makes)
+    c.in-Ok.note (rw (c.in-Some.is, c.in-Ok.is) at c.go_on-made.ensures.makes)
     c.kept-kept.result c.kept-kept.ensures
     ((rw (c.in-Some.is, c.in-Ok.is) at c.go_on-made.ensures.shown) ∙ shows)
     (warranted_inside g (goal.at.returns-clause-warranted g c).After-note_turn all))
@@ -400,17 +400,17 @@ returns-clause-shown g c = λ some.
     (moves c.note.new.self.items))
     (rw (c.note.ensures.added, c.note_turn.ensures.added)
     (shown_behind g.S.Interpret.asks c.args.context c.slot_of.result c.go_on-made.result.made
-    c.in-Some.next.shown _ _ c.self.inside.schedule.items c.self.invariant
+    c.in-Some.shown _ _ c.self.inside.schedule.items c.self.invariant
     (ready_before g (goal.at.returns-clause-shown g c).After-go_on-made)
-    c.in-Ok.told (rw (c.in-Some.is, c.in-Ok.is) at c.go_on-made.ensures.makes)
+    c.in-Ok.note (rw (c.in-Some.is, c.in-Ok.is) at c.go_on-made.ensures.makes)
     c.kept-kept.result c.kept-kept.ensures))
 
 pub returns-clause-space : goal.returns-clause-space
 returns-clause-space g c =
     ap (λ (s : Space). s.size)
     (same_space_behind g.S.Interpret.asks c.args.context c.slot_of.result c.go_on-made.result.made
-    c.in-Some.next.shown _ _ c.self.inside.schedule.items c.self.invariant
-    (ready_before g (goal.at.returns-clause-space g c).After-go_on-made) (Ok c.in-Ok.told)
+    c.in-Some.shown _ _ c.self.inside.schedule.items c.self.invariant
+    (ready_before g (goal.at.returns-clause-space g c).After-go_on-made) (Ok c.in-Ok.note)
     (rw (c.in-Some.is, c.in-Ok.is) at c.go_on-made.ensures.makes))
     ∙ ap (λ (s : Story). s.space) c.self.view_is
 
@@ -418,8 +418,8 @@ pub returns-clause-flips : goal.returns-clause-flips
 returns-clause-flips g c =
     ap (λ (s : Space). s.flips)
     (same_space_behind g.S.Interpret.asks c.args.context c.slot_of.result c.go_on-made.result.made
-    c.in-Some.next.shown _ _ c.self.inside.schedule.items c.self.invariant
-    (ready_before g (goal.at.returns-clause-flips g c).After-go_on-made) (Ok c.in-Ok.told)
+    c.in-Some.shown _ _ c.self.inside.schedule.items c.self.invariant
+    (ready_before g (goal.at.returns-clause-flips g c).After-go_on-made) (Ok c.in-Ok.note)
     (rw (c.in-Some.is, c.in-Ok.is) at c.go_on-made.ensures.makes))
     ∙ ap (λ (s : Story). s.flips) c.self.view_is
 
@@ -437,10 +437,10 @@ returns-clause-ends g c = λ ends.
     ap (λ (s : Story). s.program) c.self.view_is in
     rw (c.note.ensures.added, c.note_turn.ensures.added, ← program)
     (ends_behind g.S.Interpret.asks c.args.context c.slot_of.result c.go_on-made.result.made
-    c.in-Some.next.shown _ _ c.self.inside.schedule.items c.self.invariant
+    c.in-Some.shown _ _ c.self.inside.schedule.items c.self.invariant
     (ready_before g (goal.at.returns-clause-ends g c).After-go_on-made)
-    c.in-Ok.told (rw (c.in-Some.is, c.in-Ok.is) at c.go_on-made.ensures.makes)
-    c.kept-kept.result turn_ends (ap note_of (c.of.ensures.ends.0 ends)))
+    c.in-Ok.note (rw (c.in-Some.is, c.in-Ok.is) at c.go_on-made.ensures.makes)
+    c.kept-kept.result turn_ends (ends_told c.in-Ok.note _ refl ends))
 
 pub returns-clause-keeps : goal.returns-clause-keeps
 returns-clause-keeps g c = λ goes.
@@ -448,11 +448,11 @@ returns-clause-keeps g c = λ goes.
     (λ p entries. NoneEnds (starting_world p) (moves entries) (moves c.note.new.self.items))
     (rw (c.note.ensures.added, c.note_turn.ensures.added)
     (tell_behind g.S.Interpret.asks c.args.context c.slot_of.result c.go_on-made.result.made
-    c.in-Some.next.shown _ _ c.self.inside.schedule.items c.self.invariant
+    c.in-Some.shown _ _ c.self.inside.schedule.items c.self.invariant
     (ready_before g (goal.at.returns-clause-keeps g c).After-go_on-made)
-    c.in-Ok.told (rw (c.in-Some.is, c.in-Ok.is) at c.go_on-made.ensures.makes)
+    c.in-Ok.note (rw (c.in-Some.is, c.in-Ok.is) at c.go_on-made.ensures.makes)
     IsNoEnd nothing_ends c.kept-kept.result
-    (λ is. goes (c.of.ensures.ends.1 (ends_noted c.in-Ok.told is)))))
+    (λ is. goes (ap (λ (n : Note). Ok n) (ends_noted c.in-Ok.note is)))))
 
 pub returns-clause-only_last : goal.returns-clause-only_last
 returns-clause-only_last g c = λ _.
@@ -461,9 +461,9 @@ returns-clause-only_last g c = λ _.
     (moves c.note.new.self.items))
     (rw (c.note.ensures.added, c.note_turn.ensures.added)
     (others_behind g.S.Interpret.asks c.args.context c.slot_of.result c.go_on-made.result.made
-    c.in-Some.next.shown _ _ c.self.inside.schedule.items c.self.invariant
+    c.in-Some.shown _ _ c.self.inside.schedule.items c.self.invariant
     (ready_before g (goal.at.returns-clause-only_last g c).After-go_on-made)
-    c.in-Ok.told (rw (c.in-Some.is, c.in-Ok.is) at c.go_on-made.ensures.makes)
+    c.in-Ok.note (rw (c.in-Some.is, c.in-Ok.is) at c.go_on-made.ensures.makes)
     IsNoEnd nothing_ends c.kept-kept.result))
 
 -- ---- what the step behind wishes
@@ -473,7 +473,7 @@ module _ (g : givens.Over) (c : After-note g) where
   entries_behind = c.note.new.self.items
 
   -- it is no vmreclaim
-  wishes_none : wish_in c.in-Ok.told ≡ None
+  wishes_none : wish_in c.in-Ok.note ≡ None
       → WishesAs None (starting_world c.args.self.now.program) c.args.context
       (moves c.args.self.now.schedule) (moves entries_behind)
   wishes_none is =
@@ -481,14 +481,14 @@ module _ (g : givens.Over) (c : After-note g) where
       (λ p entries. AllTell IsNoWish (starting_world p) (moves entries) (moves entries_behind))
       (rw (c.note.ensures.added, c.note_turn.ensures.added)
       (tell_behind g.S.Interpret.asks c.args.context c.slot_of.result c.go_on-made.result.made
-      c.in-Some.next.shown _ _ c.self.inside.schedule.items c.self.invariant
+      c.in-Some.shown _ _ c.self.inside.schedule.items c.self.invariant
       (ready_before g (goal.at.After-note g c).After-go_on-made)
-      c.in-Ok.told (rw (c.in-Some.is, c.in-Ok.is) at c.go_on-made.ensures.makes)
+      c.in-Ok.note (rw (c.in-Some.is, c.in-Ok.is) at c.go_on-made.ensures.makes)
       IsNoWish nothing_wishes c.kept-kept.result
-      (no_wish_noted c.in-Ok.told is)))
+      (no_wish_noted c.in-Ok.note is)))
 
   -- it is one
-  wishes_last : (number : ℤ) → wish_in c.in-Ok.told ≡ Some number
+  wishes_last : (number : ℤ) → wish_in c.in-Ok.note ≡ Some number
       → WishesLast number (starting_world c.args.self.now.program) c.args.context
       (moves c.args.self.now.schedule) (moves entries_behind)
   wishes_last number is =
@@ -498,19 +498,19 @@ module _ (g : givens.Over) (c : After-note g) where
       (rw (c.note.ensures.added, c.note_turn.ensures.added)
       (record {
         others = others_behind g.S.Interpret.asks c.args.context c.slot_of.result c.go_on-made.result.made
-            c.in-Some.next.shown _ _ c.self.inside.schedule.items c.self.invariant
+            c.in-Some.shown _ _ c.self.inside.schedule.items c.self.invariant
             (ready_before g (goal.at.After-note g c).After-go_on-made)
-            c.in-Ok.told (rw (c.in-Some.is, c.in-Ok.is) at c.go_on-made.ensures.makes)
+            c.in-Ok.note (rw (c.in-Some.is, c.in-Ok.is) at c.go_on-made.ensures.makes)
             IsNoWish nothing_wishes c.kept-kept.result;
         last = ends_behind g.S.Interpret.asks c.args.context c.slot_of.result c.go_on-made.result.made
-            c.in-Some.next.shown _ _ c.self.inside.schedule.items c.self.invariant
+            c.in-Some.shown _ _ c.self.inside.schedule.items c.self.invariant
             (ready_before g (goal.at.After-note g c).After-go_on-made)
-            c.in-Ok.told (rw (c.in-Some.is, c.in-Ok.is) at c.go_on-made.ensures.makes)
+            c.in-Ok.note (rw (c.in-Some.is, c.in-Ok.is) at c.go_on-made.ensures.makes)
             c.kept-kept.result (effect.wishes number)
-            (wish_noted c.in-Ok.told number is);
+            (wish_noted c.in-Ok.note number is);
       }))
 
-  wishes_as : (wish : Option ℤ) → wish_in c.in-Ok.told ≡ wish
+  wishes_as : (wish : Option ℤ) → wish_in c.in-Ok.note ≡ wish
       → WishesAs wish (starting_world c.args.self.now.program) c.args.context
       (moves c.args.self.now.schedule) (moves entries_behind)
   wishes_as None is = wishes_none is
@@ -518,8 +518,7 @@ module _ (g : givens.Over) (c : After-note g) where
 
 pub returns-clause-wish : goal.returns-clause-wish
 returns-clause-wish g c =
-    wishes_as g (goal.at.returns-clause-wish g c).After-note c.wish_of.result
-    (sym c.wish_of.ensures)
+    wishes_as g (goal.at.returns-clause-wish g c).After-note (wish_in c.in-Ok.note) refl
 
 pub returns-clause-alone : goal.returns-clause-alone
 returns-clause-alone g c = λ left.
@@ -528,15 +527,15 @@ returns-clause-alone g c = λ left.
     (moves c.note.new.self.items))
     (rw (c.note.ensures.added, c.note_turn.ensures.added)
     (alone_behind g.S.Interpret.asks c.args.context c.slot_of.result c.go_on-made.result.made
-    c.in-Some.next.shown _ _ c.self.inside.schedule.items c.self.invariant
+    c.in-Some.shown _ _ c.self.inside.schedule.items c.self.invariant
     (ready_before g (goal.at.returns-clause-alone g c).After-go_on-made)
-    c.in-Ok.told (rw (c.in-Some.is, c.in-Ok.is) at c.go_on-made.ensures.makes)
+    c.in-Ok.note (rw (c.in-Some.is, c.in-Ok.is) at c.go_on-made.ensures.makes)
     c.kept-kept.result (only_inside g at left)))
 
 pub returns-clause-plain : goal.returns-clause-plain
 returns-clause-plain g c = λ hides.
     let none : c.kept-kept.result ≡ None = c.kept-kept.ensures
-    ∙ kept_none c.in-Ok.told c.in-Some.next.shown
+    ∙ kept_none c.in-Ok.note c.in-Some.shown
     ((rw (c.in-Some.is, c.in-Ok.is) at c.go_on-made.ensures.shown) ∙ hides) in
     times_noted c.go_on-made.result.made c.args.self.now.schedule c.note_turn.new.self.items
     c.note.new.self.items c.args.context c.kept-kept.result

@@ -31,11 +31,11 @@ pub into_report-requires-2-clause-warranted : goal.into_report-requires-2-clause
 into_report-requires-2-clause-warranted g c =
     subst AreWarranted (sym c.outcome-outcome.ensures.same) c.requires.warranted
 
-pub returns-then-run-clause-run : goal.returns-then-run-clause-run
-returns-then-run-clause-run g c =
+pub returns-then-is_held_up-clause-run : goal.returns-then-is_held_up-clause-run
+returns-then-is_held_up-clause-run g c =
     let less : count_of c.args.self.schedule < c.args.steps =
-    omega (arith, c.requires.counted, c.requires.fewer c.if-run.true) in
-    let one = c.requires.starved c.if-run.true in
+    omega (arith, c.requires.counted, c.requires.fewer (sym c.is_held_up.ensures ∙ c.if-is_held_up.true)) in
+    let one = c.requires.starved (sym c.is_held_up.ensures ∙ c.if-is_held_up.true) in
     record {
       run = c.into_report.ensures.run plain_space (sym c.requires.space) (
         grind (arith, nat_tests),

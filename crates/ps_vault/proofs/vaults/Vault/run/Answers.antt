@@ -5,6 +5,7 @@ use Rattle.ps_language.specs.Keeping.{PrintsOn}
 use Rattle.ps_language.specs.Schedules.{count_of, moves}
 use Rattle.ps_language.specs.World.{World}
 use Rattle.ps_language.specs.Worlds.{after_moves, starting_world}
+use Rattle.ps_vault.specs.Holds.{is_held_up}
 use Rattle.ps_vault.specs.Order.{IsNoneAbove, IsLeastAbove, IsDue, AddsTurns, InOrder}
 use Rattle.ps_vault.specs.Reports.{are_ordinary}
 use Rattle.ps_vault.specs.Screens.{ShowsOn, Sight}
@@ -138,7 +139,7 @@ ordered_now g c none =
     (moves c.turns-turn.new.self.schedule) c.requires.quantum (due_now g c none) (turns_now g c)
 
 passing_on : (g : givens.Over) (c : After-turns-turn g) → moves c.args.self.now.schedule ≡ []
-    → c.turns-turn.result.held ≡ false
+    → is_held_up c.turns-turn.result.told ≡ false
     → c.loop-made.made + c.turns-turn.result.made < c.args.steps
     → Passing c.args.quantum (starting_world c.args.self.now.program) c.in-Some.next
     (moves c.turns-turn.new.self.schedule)
@@ -190,25 +191,25 @@ shown_more g c = λ first has.
     c.show_printed.ensures.shown first
     (shown_now g (goal.at.After-show_printed g c).After-turns-turn first has)
 
-pub returns-then-turn-clause-starved : goal.returns-then-turn-clause-starved
-returns-then-turn-clause-starved g c = λ grows held.
+pub returns-then-is_held_up-clause-starved : goal.returns-then-is_held_up-clause-starved
+returns-then-is_held_up-clause-starved g c = λ grows held.
     ordinary_starved g.S.Interpret.asks true c.in-Some.next _ _
-    (c.turns-turn.ensures.starved grows c.if-turn.true)
+    (c.turns-turn.ensures.starved grows (sym c.is_held_up.ensures ∙ c.if-is_held_up.true))
 
-pub returns-then-turn-clause-owed : goal.returns-then-turn-clause-owed
-returns-then-turn-clause-owed g c = λ grows held none.
-    let at = (goal.at.returns-then-turn-clause-owed g c).After-turns-turn in (
+pub returns-then-is_held_up-clause-owed : goal.returns-then-is_held_up-clause-owed
+returns-then-is_held_up-clause-owed g c = λ grows held none.
+    let at = (goal.at.returns-then-is_held_up-clause-owed g c).After-turns-turn in (
       c.in-Some.next,
       turns_held c.args.quantum (starting_world c.args.self.now.program) c.in-Some.next
           c.most_unseen-most.result c.turns-turn.result
           (moves c.next_ready.new.self.schedule) (moves c.turns-turn.new.self.schedule)
-          c.requires.quantum (due_now g at none) (turns_now g at) c.if-turn.true,
-      c.turns-turn.ensures.starved grows c.if-turn.true,
+          c.requires.quantum (due_now g at none) (turns_now g at) (sym c.is_held_up.ensures ∙ c.if-is_held_up.true),
+      c.turns-turn.ensures.starved grows (sym c.is_held_up.ensures ∙ c.if-is_held_up.true),
     )
 
-pub returns-then-turn-clause-order : goal.returns-then-turn-clause-order
-returns-then-turn-clause-order g c =
-    ordered_now g (goal.at.returns-then-turn-clause-order g c).After-turns-turn
+pub returns-then-is_held_up-clause-order : goal.returns-then-is_held_up-clause-order
+returns-then-is_held_up-clause-order g c =
+    ordered_now g (goal.at.returns-then-is_held_up-clause-order g c).After-turns-turn
 
 pub loop-made-preserved : goal.loop-made-preserved
 loop-made-preserved g c =
@@ -237,8 +238,8 @@ loop-made-preserved g c =
           let held = ap (λ (s : Story). s.capacity) same in
           omega (arith, held, c.turns-turn.ensures.capacity, c.loop-made.invariant.capacity)
           );
-      order = λ none. (λ less. passing_on g at none (c.if-turn.false) less, ordered_now g at none);
-      calling = c.turns-turn.ensures.calling_on c.if-turn.false;
+      order = λ none. (λ less. passing_on g at none (sym c.is_held_up.ensures ∙ c.if-is_held_up.false) less, ordered_now g at none);
+      calling = c.turns-turn.ensures.calling_on (sym c.is_held_up.ensures ∙ c.if-is_held_up.false);
       fits = c.show_printed.ensures.within;
       going = c.show_printed.ensures.going ∙ ap not c.if-not-show_printed.false;
       still = λ unseen. let before = c.loop-made.invariant.still unseen in
@@ -246,9 +247,9 @@ loop-made-preserved g c =
       shown = shown_more g (goal.at.loop-made-preserved g c).After-show_printed;
     }
 
-pub returns-then-turn-clause-shown : goal.returns-then-turn-clause-shown
-returns-then-turn-clause-shown g c =
-    shown_now g (goal.at.returns-then-turn-clause-shown g c).After-turns-turn
+pub returns-then-is_held_up-clause-shown : goal.returns-then-is_held_up-clause-shown
+returns-then-is_held_up-clause-shown g c =
+    shown_now g (goal.at.returns-then-is_held_up-clause-shown g c).After-turns-turn
 
 -- ---- showing failed
 

@@ -6,10 +6,10 @@ use Rattle.ps_vault.specs.Stories.{AreWarranted, Story}
 use Rattle.ps_vault.proofs.Following.{ordinary_starved}
 use Rattle.ps_vault.proofs.vaults.Vault.run_behind.Goals as goal
 
-pub returns-then-turn-clause-starved : goal.returns-then-turn-clause-starved
-returns-then-turn-clause-starved g c = λ grows held.
+pub returns-then-is_held_up-clause-starved : goal.returns-then-is_held_up-clause-starved
+returns-then-is_held_up-clause-starved g c = λ grows held.
     ordinary_starved g.S.Interpret.asks true c.in-Some.next _ _
-    (c.turns-turn.ensures.starved grows c.if-turn.true)
+    (c.turns-turn.ensures.starved grows (sym c.is_held_up.ensures ∙ c.if-is_held_up.true))
 
 pub loop-made-preserved : goal.loop-made-preserved
 loop-made-preserved g c =
@@ -34,5 +34,5 @@ loop-made-preserved g c =
           let held = ap (λ (s : Story). s.capacity) same in
           omega (arith, held, c.turns-turn.ensures.capacity, c.loop-made.invariant.capacity)
           );
-      calling = c.turns-turn.ensures.calling_on c.if-turn.false;
+      calling = c.turns-turn.ensures.calling_on (sym c.is_held_up.ensures ∙ c.if-is_held_up.false);
     }

@@ -1,5 +1,5 @@
 -- Each round adds steps of the context to its turn, and where it is alone to the next ones.
-use Rattle.std.proofs.Common.{◌≡◌, ◌≢◌, ℕ, ◌+◌, ◌-◌, ◌%◌, ◌<◌, ◌≤◌, Bool, List, false, true, min, inl, inr, refl, sym, ◌∙◌, ap, ap₂, subst, arith, rules}
+use Rattle.std.proofs.Common.{◌≡◌, ◌≢◌, Ok, ℕ, ◌+◌, ◌-◌, ◌%◌, ◌<◌, ◌≤◌, Bool, List, false, true, min, inl, inr, refl, sym, ◌∙◌, ap, ap₂, subst, arith, rules}
 use Rattle.std.specs.Prelude.{◌==◌, if◌then◌else◌}
 use Rattle.std.proofs.lemmas.Bool.{true≢false}
 use Rattle.std.proofs.lemmas.Bool.Decides.{nat_tests}
@@ -9,7 +9,7 @@ use Rattle.ps_language.specs.Locks.{is_ready}
 use Rattle.ps_language.specs.Schedules.{Move, count_of, moves}
 use Rattle.ps_language.specs.World.{World}
 use Rattle.ps_language.specs.Worlds.{after_moves, starting_world, world}
-use Rattle.ps_vault.specs.declared.vaults.Told.TheVariants.{TurnEnds}
+use Rattle.ps_ctx.specs.declared.notes.Note.TheVariants.{TurnEnds}
 use Rattle.ps_vault.specs.Holds.{is_held_up}
 use Rattle.ps_vault.specs.Order.{IsAlone, IsOnlyLeft, AddsSteps, AllOfOne, NoneEnds, OnlyLastMayEnd, IsOver, EndsTurn}
 use Rattle.ps_vault.specs.Reports.{are_ordinary}
@@ -95,7 +95,7 @@ module _ (g : givens.Over) (c : After-advance-advanced g) where
   adds = of_round (λ p before. AddsSteps c.args.context made before new)
       c.advance-advanced.ensures.takes
 
-  keeps : c.advance-advanced.result.told ≢ TurnEnds → NoneEnds start now new
+  keeps : c.advance-advanced.result.told ≢ Ok TurnEnds → NoneEnds start now new
   keeps goes = of_round (λ p before. NoneEnds (starting_world p) before new)
       (c.advance-advanced.ensures.keeps goes)
 
@@ -121,7 +121,7 @@ module _ (g : givens.Over) (c : After-advance-advanced g) where
       min (c.args.quantum - c.loop-context.begun) (c.args.most - c.loop-context.made))
   within = subst (λ (n : ℕ). made ≤ n) c.at_once-goal.ensures c.advance-advanced.ensures.within
 
-  chunk : c.advance-advanced.result.told ≢ TurnEnds
+  chunk : c.advance-advanced.result.told ≢ Ok TurnEnds
       → Chunk c.args.quantum start c.args.context (moves c.args.self.now.schedule)
       c.loop-context.begun made new
   chunk goes =
@@ -151,7 +151,7 @@ module _ (g : givens.Over) (c : After-advance-advanced g) where
       c.loop-context.invariant.turns adds within alone
 
   -- of the last turn there are more to come, or it had as many steps as it may have
-  over_by : (goes : c.advance-advanced.result.told ≢ TurnEnds)
+  over_by : (goes : c.advance-advanced.result.told ≢ Ok TurnEnds)
       → 1 ≤ made → (c.loop-context.made + made) % c.args.quantum ≡ 0
       → IsOver c.args.quantum start c.args.context (chunk goes).now new
   over_by goes some none =
@@ -165,7 +165,7 @@ module _ (g : givens.Over) (c : After-advance-advanced g) where
       ]
 
   -- as many are begun
-  begun_on : (goes : c.advance-advanced.result.told ≢ TurnEnds)
+  begun_on : (goes : c.advance-advanced.result.told ≢ Ok TurnEnds)
       → 0 < (c.loop-context.made + made) % c.args.quantum
       → Begun c.args.quantum start c.args.context (moves c.args.self.now.schedule)
       ((c.loop-context.made + made) % c.args.quantum) new
@@ -194,30 +194,31 @@ returns-then-is_err-clause-turns g c =
 
 -- ---- the turn is ended
 
-pub returns-in-TurnEnds-clause-turns : goal.returns-in-TurnEnds-clause-turns
-returns-in-TurnEnds-clause-turns g c =
-    let at = (goal.at.returns-in-TurnEnds-clause-turns g c).After-advance-advanced in
+pub returns-in-Ok-TurnEnds-clause-turns : goal.returns-in-Ok-TurnEnds-clause-turns
+returns-in-Ok-TurnEnds-clause-turns g c =
+    let at = (goal.at.returns-in-Ok-TurnEnds-clause-turns g c).After-advance-advanced in
     let new = moves c.advance-advanced.new.self.schedule in
+    let ends : c.advance-advanced.result.told ≡ Ok TurnEnds = search rules in
     let ended = last g at
     (of_round g at (λ p before. OnlyLastMayEnd (starting_world p) before new)
-    (c.advance-advanced.ensures.only_last c.in-TurnEnds.is))
-    (c.advance-advanced.ensures.some (rw c.in-TurnEnds.is refl)) in
+    (c.advance-advanced.ensures.only_last ends))
+    (c.advance-advanced.ensures.some (rw ends refl)) in
     turns_ended c.args.quantum (starting_world c.args.self.now.program) c.args.context
     (moves c.args.self.now.schedule) c.args.most _ new ended.whole ended.count ended.turns
     ended.fits ended.some ended.adds ended.only_last refl
     (of_round g at (λ p before. EndsTurn (starting_world p) c.args.context new)
-    (c.advance-advanced.ensures.ends c.in-TurnEnds.is))
+    (c.advance-advanced.ensures.ends ends))
 
 -- ---- the next step was held up
 
-pub returns-in-HeldUp-clause-turns : goal.returns-in-HeldUp-clause-turns
-returns-in-HeldUp-clause-turns g c =
-    let at = (goal.at.returns-in-HeldUp-clause-turns g c).After-advance-advanced in
+pub returns-in-Err-clause-turns : goal.returns-in-Err-clause-turns
+returns-in-Err-clause-turns g c =
+    let at = (goal.at.returns-in-Err-clause-turns g c).After-advance-advanced in
     let start : World = starting_world c.args.self.now.program in
     let new = moves c.advance-advanced.new.self.schedule in
-    let held_up : is_held_up c.advance-advanced.result.told ≡ true = rw c.in-HeldUp.is refl in
+    let held_up : is_held_up c.advance-advanced.result.told ≡ true = rw c.in-Err.is refl in
     let ready : is_ready (world_at c.advance-advanced.new.self) c.args.context ≡ true =
-    (rw c.in-HeldUp.is at c.advance-advanced.ensures.held_up).ready in
+    (rw c.in-Err.is at c.advance-advanced.ensures.held_up).ready in
     let rest = held_of c.args.quantum start c.args.context (moves c.args.self.now.schedule)
     c.loop-context.begun (c.args.most - c.loop-context.made) c.advance-advanced.result.made
     (is_one_left g at) c.requires.quantum (moves c.loop-context.self.schedule) new
@@ -231,11 +232,11 @@ returns-in-HeldUp-clause-turns g c =
     new rest.now rest.at (λ held. rest.less) (λ free. absurd (true≢false free))
     (λ free less. absurd (true≢false free))
 
-pub returns-in-HeldUp-clause-starved : goal.returns-in-HeldUp-clause-starved
-returns-in-HeldUp-clause-starved g c = λ grows _.
+pub returns-in-Err-clause-starved : goal.returns-in-Err-clause-starved
+returns-in-Err-clause-starved g c = λ grows _.
     let wants = may_want g.M.Memory.heap g.M.Memory.grants g.S.Interpret.asks c.args.context false
-    c.advance-advanced.new.self c.in-HeldUp.field-0 grows
-    (rw c.in-HeldUp.is at c.advance-advanced.ensures.held_up) in
+    c.advance-advanced.new.self c.in-Err.reason grows
+    (rw c.in-Err.is at c.advance-advanced.ensures.held_up) in
     record { ready = wants.ready; wants = inl wants.wants }
 
 -- ---- it had as many as it may have
@@ -245,7 +246,7 @@ returns-then-begun-eq0-clause-turns g c =
     let at = (goal.at.returns-then-begun-eq0-clause-turns g c).After-advance-advanced in
     let start : World = starting_world c.args.self.now.program in
     let new = moves c.advance-advanced.new.self.schedule in
-    let goes : c.advance-advanced.result.told ≢ TurnEnds = search rules in
+    let goes : c.advance-advanced.result.told ≢ Ok TurnEnds = search rules in
     let some = c.advance-advanced.ensures.some (search rules) in
     turns_begun c.args.quantum start c.args.context (moves c.args.self.now.schedule) c.args.most _
     new (chunk g at goes).now (chunk g at goes).at (λ held. absurd (true≢false (sym held)))
@@ -262,7 +263,7 @@ returns-then-not-is_ready-clause-turns g c =
     let at = (goal.at.returns-then-not-is_ready-clause-turns g c).After-advance-advanced in
     let start : World = starting_world c.args.self.now.program in
     let same : c.is_ready.new.self ≡ c.advance-advanced.new.self = c.is_ready.ensures.same in
-    let goes : c.advance-advanced.result.told ≢ TurnEnds = search rules in
+    let goes : c.advance-advanced.result.told ≢ Ok TurnEnds = search rules in
     let some = c.advance-advanced.ensures.some (search rules) in
     let here = chunk g at goes in
     turns_begun c.args.quantum start c.args.context (moves c.args.self.now.schedule) c.args.most _
@@ -282,7 +283,7 @@ pub loop-context-preserved : goal.loop-context-preserved
 loop-context-preserved g c =
     let at = (goal.at.loop-context-preserved g c).After-advance-advanced in
     let same : c.is_ready.new.self ≡ c.advance-advanced.new.self = c.is_ready.ensures.same in
-    let goes : c.advance-advanced.result.told ≢ TurnEnds = search rules in
+    let goes : c.advance-advanced.result.told ≢ Ok TurnEnds = search rules in
     record {
       within = omega (
         arith,

@@ -1,7 +1,7 @@
 use Rattle.std.proofs.Common.{◌≡◌, ℕ, ◌+◌, ◌-◌, ◌*◌, slice_index_or, ◌%◌, ◌/◌, ◌^◌, arith, ap, sym, ◌∙◌, nat_eq}
 use Rattle.std.proofs.lemmas.Bool.Decides.{nat_tests}
 use Rattle.ps_word.specs.declared.values.Content.TheVariants.{Operator}
-use Rattle.ps_language.specs.OperatorList.{every_operator}
+use Rattle.ps_language.specs.Operators.{every_operator}
 use Rattle.ps_language.specs.declared.operators.Operator.TheVariants.{Pop}
 use Rattle.ps_word.specs.Format.{executable_in}
 use Rattle.ps_word.proofs.Places.{content_in-at, operator_below, as_operator-other}
