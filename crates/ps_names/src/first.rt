@@ -16,22 +16,28 @@ pub const FIRST_ERROR: u16 = 0;
 /// The number of `integertype`; the other types follow it.
 pub const FIRST_TYPE: u16 = 16;
 
-/// The numbers of the keys of `$error`.
+/// The number of `newerror`, the first key of `$error`.
 pub const NEWERROR: u16 = 27;
 
+/// The number of `errorname`.
 pub const ERRORNAME: u16 = 28;
 
+/// The number of `command`.
 pub const COMMAND: u16 = 29;
 
-/// The numbers of what systemdict has beside the operators.
+/// The number of `true`, the first of what systemdict has beside the operators.
 pub const TRUE: u16 = 30;
 
+/// The number of `false`.
 pub const FALSE: u16 = 31;
 
+/// The number of `null`.
 pub const NULL: u16 = 32;
 
+/// The number of `systemdict`.
 pub const SYSTEMDICT: u16 = 33;
 
+/// The number of `userdict`.
 pub const USERDICT: u16 = 34;
 
 /// The number of `pop`; the other operators follow it in their order.
