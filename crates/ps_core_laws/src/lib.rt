@@ -40,7 +40,7 @@ mod tries;
 pub use closing::Closing;
 pub use flips::{flip_laws, moving_laws};
 pub use memory::memory_laws;
-pub use tries::{Flip, Unready};
+pub use tries::Unready;
 
 /// The laws of the collector (Nettles and O'Toole, PLDI 1993, 2 and 3), which hold after every list
 /// of permitted events, for every size of a space from 4,096 to 1,048,576 words.

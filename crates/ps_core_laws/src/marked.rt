@@ -7,7 +7,7 @@ ghost use Rattle.std.specs.Prelude.{◌≡◌};
 
 use crate::collected::{CollectedMemory, Counts};
 use crate::sides::{Collects, LoggedMemory, Past};
-use crate::{Closing, Flip};
+use crate::{Closing, Unready};
 use ps_mem::Slot;
 use ps_mem::marked::Marked;
 use ps_word::words::Word;
@@ -32,6 +32,8 @@ impl<M: LoggedMemory + Drop> LoggedMemory for Marked<M> {
     }
 
     ghost bounded = { λ m. M.bounded m.memory };
+
+    ghost addressed = { λ m. M.addressed m.memory };
 }
 
 impl<M: CollectedMemory + Drop> CollectedMemory for Marked<M> {
@@ -49,7 +51,7 @@ impl<M: LoggedMemory + Drop, C: Collects<M>> Collects<Marked<M>> for Past<C> {
         self.0.hand_over(&mut memory.memory, roots);
     }
 
-    fn try_flip(&mut self, memory: &mut Marked<M>, roots: &mut [Word]) -> Flip {
+    fn try_flip(&mut self, memory: &mut Marked<M>, roots: &mut [Word]) -> Result<(), Unready> {
         self.0.try_flip(&mut memory.memory, roots)
     }
 

@@ -1,19 +1,19 @@
 //! A memory and its collector, cycle by cycle (Nettles and O'Toole, PLDI 1993): whoever makes steps
 //! has the memory, and is lent the collector for the calls that both must make.
 
-ghost use Rattle.std.specs.Prelude.{◌≡◌, ◌<◌, ℕ, true, false, List};
+ghost use Rattle.std.specs.Prelude.{◌≡◌, ◌<◌, ℕ, true, false, List, Result};
 ghost use Rattle.ps_word.specs.declared.words.Word.{Word};
 ghost use Rattle.ps_record.specs.Format.{slots};
 ghost use Rattle.ps_mem.specs.Shows.{AreValues};
 ghost use Rattle.ps_mem.specs.Stands.{IsAddressed};
 ghost use Rattle.ps_core_laws.specs.MemoryLaws.{AfterClose, AfterOpen};
 ghost use Rattle.ps_core_machine.specs.declared.events.Event.{Event};
-ghost use Rattle.ps_core_laws.specs.declared.tries.Flip.{Flip};
+ghost use Rattle.ps_core_laws.specs.declared.tries.Unready.{Unready};
 ghost use Rattle.ps_core_laws.specs.Collected.{IsCollected, IsExact, IsQuiet, may_open};
 ghost use Rattle.ps_core_laws.specs.Tries.{IsFlip, sides_of};
 
 use crate::collected::Counts;
-use crate::{Closing, Flip};
+use crate::{Closing, Unready};
 use ps_mem::{Memory, Slot};
 use ps_word::words::Word;
 
@@ -24,12 +24,10 @@ pub trait LoggedMemory: Memory {
     /// flip tells which it adds.
     ghost did: { Self → List Event };
 
-    /// Whether a cycle is open: where none is, no log is closed. What stands has an address of 24
-    /// bits.
+    /// Whether a cycle is open: where none is, no log is closed.
     fn is_open(&self) -> bool
         ensures answer { result ≡ (Self.grants self.now).cycle_open }
-        ensures quiet { result ≡ false → IsQuiet (Self.grants self.now) }
-        ensures addressed { IsAddressed (Self.heap self.now) };
+        ensures quiet { result ≡ false → IsQuiet (Self.grants self.now) };
 
     /// Opens a cycle exactly where none is open and cycles are left: no log is closed then, and no
     /// object may be filled. False: nothing has changed.
@@ -64,6 +62,9 @@ pub trait LoggedMemory: Memory {
 
     /// It never grows.
     ghost bounded: { (m : Self) → (Self.heap m).space.grows ≡ false };
+
+    /// What stands has an address of 24 bits.
+    ghost addressed: { (m : Self) → IsAddressed (Self.heap m) };
 }
 
 /// A collector of memories of one kind, in the calls that are lent the memory. What it does between
@@ -74,7 +75,7 @@ pub trait Collects<M: LoggedMemory> {
     ghost did: { Self → M → List Event };
 
     /// Of a try to flip with these roots, that it comes to this: that it flips, or why it can't yet.
-    ghost answers: { Self → M → List Word → Flip → Type 0 };
+    ghost answers: { Self → M → List Word → Result Unit Unready → Type 0 };
 
     /// Hands roots over: the collector knows from then on whether a cycle is open, and in a cycle
     /// what they name. No object may be filled then.
@@ -85,8 +86,8 @@ pub trait Collects<M: LoggedMemory> {
             { fresh = λ a. false } };
 
     /// Ends the open cycle by the flip, where all is ready for it: the words of the roots are
-    /// renamed. `NotReady`: nothing has changed, and why.
-    fn try_flip(&mut self, memory: &mut M, roots: &mut [Word]) -> Flip
+    /// renamed. `Unready` says why that can't come yet, and nothing has changed.
+    fn try_flip(&mut self, memory: &mut M, roots: &mut [Word]) -> Result<(), Unready>
         requires values { AreValues (M.heap memory.old) roots.old }
         requires open { (M.grants memory.old).cycle_open ≡ true }
         ensures answer { Self.answers self.old memory.old roots.old result }

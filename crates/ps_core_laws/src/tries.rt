@@ -1,13 +1,4 @@
-//! What a try to flip comes to.
-
-/// What a try to flip came to.
-#[derive(Clone, Copy, Debug, PartialEq, Eq)]
-pub enum Flip {
-    /// The open cycle is ended: the objects were moved, and the roots are renamed.
-    Done,
-    /// Nothing has changed.
-    NotReady(Unready),
-}
+//! Why a try to flip changes nothing.
 
 /// Why a flip can't come yet.
 #[derive(Clone, Copy, Debug, PartialEq, Eq)]

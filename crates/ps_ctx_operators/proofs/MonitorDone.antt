@@ -39,8 +39,6 @@ use Rattle.ps_ctx.specs.declared.notes.Note.TheVariants.{Nothing, TurnEnds}
 use Rattle.ps_ctx.specs.Calls.{call_by, CallsTo, Calls}
 use Rattle.ps_ctx.proofs.Again.{in_course}
 use Rattle.ps_ctx_operators.specs.Deeds.{scene_at, part_at, with_scene_of, after_part, scene_deed}
-use Rattle.ps_ctx_operators.specs.declared.monitors.Entered.{Entered}
-use Rattle.ps_ctx_operators.specs.Monitors.{waits_by}
 use Rattle.ps_ctx_operators.specs.Rows.{is_waiting, monitor_part, monitor_caller, monitor_asked, records_left}
 use Rattle.ps_ctx_operators.proofs.DeedLaws.{monitor_deed}
 use Rattle.ps_ctx_operators.specs.Done.{DoesBy, outcome_of}
@@ -205,11 +203,11 @@ module _ (caller : ℕ) (attempt : Attempt) (shown : Option (ℤ × ℤ)) (d : D
       found
 
   -- what the operator told, of each store that is shown
-  abbrev Told : Entered → Type 0
+  abbrev Told : Bool → Type 0
   Told came = (store : Store) → IsShown l store
-      → is_waiting (left_here caller attempt l new store) ≡ waits_by came
+      → is_waiting (left_here caller attempt l new store) ≡ not came
 
-  told_in : (came : Entered) → Told came → (w : World) → IsWorld d w → waits_in w ≡ waits_by came
+  told_in : (came : Bool) → Told came → (w : World) → IsWorld d w → waits_in w ≡ not came
   told_in came told w at = sym (waits_same w at) ∙ told w.store (shown_here w at)
 
   -- ---- it doesn't wait
@@ -228,7 +226,7 @@ module _ (caller : ℕ) (attempt : Attempt) (shown : Option (ℤ × ℤ)) (d : D
       ∙ ap (λ b. if b then leaves waits else scene_deed nothing (call any w)
       (part_at (call any w) (monitor_caller caller))) (never_waits w at)
 
-  pub entered : (came : Entered) → waits_by came ≡ false → Told came
+  pub entered : (came : Bool) → not came ≡ false → Told came
       → Acts (monitor_asked caller) (monitor_caller caller) attempt (Ok tt) l new
       → DoesBy Monitor caller attempt shown (Ok Nothing) d (desk_unmade d caller member new)
   entered came enters told acts =
@@ -253,7 +251,7 @@ module _ (caller : ℕ) (attempt : Attempt) (shown : Option (ℤ × ℤ)) (d : D
 
   -- ---- it waits
 
-  module _ (came : Entered) (must : waits_by came ≡ true) (told : Told came)
+  module _ (came : Bool) (must : not came ≡ true) (told : Told came)
       (acts : Acts (monitor_asked caller) (monitor_caller caller) attempt (Ok tt) l new) where
     abbrev pub again_desk : Desk
     again_desk = desk_unmade d caller (in_course Again member) new

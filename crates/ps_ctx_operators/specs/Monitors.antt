@@ -1,15 +1,8 @@
 -- Monitors and conditions over words (PLRM2, 7.1).
-use Rattle.std.specs.Prelude.{ℕ, ◌==◌, Bool, true, false, List, [], ◌∷◌, if◌then◌else◌}
+use Rattle.std.specs.Prelude.{ℕ, ◌==◌, List, [], ◌∷◌, if◌then◌else◌}
 use Rattle.ps_word.specs.declared.values.Part.{Part}
 use Rattle.ps_ops_control.specs.declared.frames.Frame.{Frame}
 use Rattle.ps_ops_control.specs.declared.frames.Frame.TheVariants.{Monitor, Procedure}
-use Rattle.ps_ctx_operators.specs.declared.monitors.Entered.{Entered}
-use Rattle.ps_ctx_operators.specs.declared.monitors.Entered.TheVariants.{Enters, Waits}
-
--- whether the caller waits
-abbrev pub waits_by : Entered → Bool
-waits_by Enters = false
-waits_by Waits = true
 
 -- the frames of a procedure under a lock, and how many they are
 abbrev pub monitored : (lock : ℕ) → Part → List Frame

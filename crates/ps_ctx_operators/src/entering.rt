@@ -5,7 +5,7 @@ ghost use Rattle.ps_ctx_table.specs.Desks.{IsSteady};
 ghost use Rattle.ps_ctx.specs.Calls.{over_of, Calls, RunsAt};
 
 use crate::endings::end;
-use crate::monitors::{self, Entered};
+use crate::monitors::monitor;
 use ps_ctx::notes::Note;
 use ps_ctx::worlds::Calling;
 use ps_ctx_table::contexts::Contexts;
@@ -43,12 +43,12 @@ pub fn call_monitor<M: Memory>(
     };
     let same_attempt = attempt;
     let member = contexts.table.get_mut(caller);
-    match monitors::monitor(caller, &mut member.context, runtime, attempt) {
-        Ok(Entered::Waits) => {
+    match monitor(caller, &mut member.context, runtime, attempt) {
+        Ok(false) => {
             member.course = Course::Again;
             Ok(Note::TurnEnds)
         }
-        Ok(Entered::Enters) => end(calling, Ok(Note::Nothing), contexts, runtime, same_attempt),
+        Ok(true) => end(calling, Ok(Note::Nothing), contexts, runtime, same_attempt),
         Err(why) => end(calling, Err(why), contexts, runtime, same_attempt),
     }
 }

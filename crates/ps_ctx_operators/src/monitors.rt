@@ -2,7 +2,7 @@
 //! Contexts).
 
 ghost use Rattle.std.specs.Prelude.{◌≡◌, ◌+◌, ◌<◌, ◌≤◌, ◌^◌, ◌++◌, ℕ, List, length, map, IfOk};
-ghost use Rattle.std.specs.Prelude.{Some};
+ghost use Rattle.std.specs.Prelude.{Some, not};
 ghost use Rattle.ps_language.specs.Limits.{frame_limit};
 ghost use Rattle.ps_language.specs.Value.{Store};
 ghost use Rattle.ps_mem.specs.Meaning.{value_of};
@@ -10,7 +10,7 @@ ghost use Rattle.ps_mem.specs.References.{StandsAs};
 ghost use Rattle.ps_ops_state.specs.Acts.{Acts, nothing_asked};
 ghost use Rattle.ps_ops_state.specs.Lent.{lent_of, scene_of, IsGood, IsShown};
 ghost use Rattle.ps_ctx_operators.specs.Tells.{done};
-ghost use Rattle.ps_ctx_operators.specs.Monitors.{monitored, monitored_count, waits_by};
+ghost use Rattle.ps_ctx_operators.specs.Monitors.{monitored, monitored_count};
 ghost use Rattle.ps_ctx_operators.specs.Rows as rows;
 
 use crate::locks::{owner, set_owner};
@@ -102,15 +102,6 @@ pub fn wait<M: Memory>(
 
 // ---- monitor
 
-/// What `monitor` came to.
-#[derive(Clone, Copy, Debug, PartialEq, Eq)]
-pub enum Entered {
-    /// The lock is the caller's, and the procedure is entered.
-    Enters,
-    /// The lock is another's. Nothing has changed, and it is to be tried again.
-    Waits,
-}
-
 /// How many frames a procedure under a lock needs.
 fn monitored_count(body: Part) -> usize
     ensures count { result ≡ monitored_count body }
@@ -132,7 +123,8 @@ fn push_monitored(frames: &mut Frames, lock: u32, body: Part)
 }
 
 /// `L P monitor`: a free lock becomes the caller's, with one record in a cycle, and the procedure
-/// is entered above a frame that frees it. Where the lock is another's the caller waits.
+/// is entered above a frame that frees it. False: the lock is another's, nothing has changed, and
+/// it is to be tried again.
 ///
 /// Raises `stackunderflow`, `typecheck`, `invalidaccess` where the procedure can't be executed,
 /// `invalidcontext` where the lock is the caller's own, and `execstackoverflow`. `LogFull`,
@@ -142,7 +134,7 @@ pub fn monitor<M: Memory>(
     context: &mut Context,
     runtime: &mut Runtime<M>,
     attempt: Attempt,
-) -> Result<Entered, Break>
+) -> Result<bool, Break>
     requires caller { 1 ≤ caller }
     requires identifier { caller < 2 ^ 31 }
     requires good { IsGood (lent_of M.heap M.grants context.old runtime.old) }
@@ -155,7 +147,7 @@ pub fn monitor<M: Memory>(
         → IfOk result (λ entered. rows.is_waiting (rows.monitor_part caller (scene_of
         (lent_of M.heap M.grants context.old runtime.old) store).operands
         (scene_of (lent_of M.heap M.grants context.old runtime.old) store))
-        ≡ waits_by entered) }
+        ≡ not entered) }
 {
     let Some((top, second)) = context.operands.top_two() else {
         return Err(Break::Raises(ErrorName::StackUnderflow));
@@ -174,7 +166,7 @@ pub fn monitor<M: Memory>(
         return Err(Break::Raises(ErrorName::InvalidContext));
     }
     if owned_by != 0 {
-        return Ok(Entered::Waits);
+        return Ok(false);
     }
     if context.frames.len() > FRAME_LIMIT - monitored_count(body) {
         return Err(Break::Raises(ErrorName::ExecStackOverflow));
@@ -185,5 +177,5 @@ pub fn monitor<M: Memory>(
     set_owner(&mut runtime.memory, attempt.slot, lock, caller);
     push_monitored(&mut context.frames, lock, body);
     context.operands.discard(2);
-    Ok(Entered::Enters)
+    Ok(true)
 }

@@ -1,6 +1,5 @@
 -- What is lent at the start is the first context's.
-use Rattle.std.proofs.Common.{◌≡◌, ◌≢◌, ℕ, ◌<◌, ◌^◌, false, List, [], ◌∷◌, length, sym, ap, ◌∙◌, arith, subst}
-use Rattle.std.specs.List.{AllPairs}
+use Rattle.std.proofs.Common.{◌≡◌, ℕ, ◌<◌, ◌^◌, false, List, [], ◌∷◌, length, sym, ap, ◌∙◌, arith, subst}
 use Rattle.ps_language.specs.Machines as machines
 use Rattle.ps_language.specs.Readers.{literal}
 use Rattle.ps_language.specs.Value.{dictionary_value}
@@ -9,6 +8,7 @@ use Rattle.ps_word.specs.declared.values.Content.TheVariants.{Dictionary}
 use Rattle.ps_mem.specs.Heap.{birth_at}
 use Rattle.ps_mem.specs.Meaning.{value_of}
 use Rattle.ps_mem.specs.Shows.{AreValues, AreWithin, Shows}
+use Rattle.ps_names.specs.Names.{AreNames}
 use Rattle.ps_ops_operands.specs.Changes.{values_in}
 use Rattle.ps_ops_operands.specs.FirstNames.{BeginWithFirst}
 use Rattle.ps_ops_control.specs.declared.frames.Source.TheVariants.{Program}
@@ -18,7 +18,7 @@ use Rattle.ps_ops_state.specs.Lent.{Lent, scene_of, around_of, IsErrorDictionary
 use Rattle.ps_ctx_start.specs.declared.dictionaries.FirstDictionaries.{FirstDictionaries}
 use Rattle.ps_ctx_start.specs.Starts.{AreFirst, first_machine, Starts}
 use Rattle.ps_ctx_start.specs.Words.{word_of}
-use Rattle.ps_ctx_start.proofs.Distinct.{names-apart}
+use Rattle.ps_ctx_start.proofs.Distinct.{first-are}
 use Rattle.ps_ctx_start.proofs.Meaning.{begin, reference-held, reference-within, reference-value}
 
 module _ (program : List ℕ) (l : Lent) (made : FirstDictionaries) (first : AreFirst l.heap made)
@@ -39,7 +39,7 @@ module _ (program : List ℕ) (l : Lent) (made : FirstDictionaries) (first : Are
     frames = subst (AreFrames l.heap (length l.program)) (sym frames) (omega arith, tt);
     error_stands = subst (IsErrorDictionary l.heap) (sym error)
         (record { stands = first.error.stands; below = first.error.below });
-    names = subst (AllPairs (λ one later. one ≢ later)) (sym names) names-apart;
+    names = subst AreNames (sym names) first-are;
     first = subst BeginWithFirst (sym names) begin;
     empty = empty;
   }

@@ -94,7 +94,7 @@ module _ (old new : Desk) (goes : GoesOn old new) (steady : IsSteady old) (ident
       → IfSome item (IsGoodMember new) → IsSteady new
   goes_steady item changed good = record {
     sound = goes.sound;
-    names = goes.distinct;
+    names = goes.are;
     first = goes.first;
     empty = goes.empty;
     members = subst (AllMembers (IsGoodMember new)) (sym changed)

@@ -58,7 +58,7 @@ module _ (old new : Desk) (goes : GoesOn old new) where
 
     named_good : IsGood named
     named_good =
-        formed_good (lent_to old context) goes.formed new.names goes.names good goes.distinct
+        formed_good (lent_to old context) goes.formed new.names goes.names good goes.are
 
     pub stays_good : IsGood (lent_to new context)
     stays_good =

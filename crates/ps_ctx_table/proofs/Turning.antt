@@ -64,7 +64,7 @@ goes_by d context new members has_faulted keeps stays good = record {
   program = stays.program;
   most = stays.most;
   sound = good.sound;
-  distinct = good.names;
+  are = good.names;
   first = good.first;
   empty = good.empty;
 }

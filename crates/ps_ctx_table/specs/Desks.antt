@@ -1,7 +1,7 @@
 -- All contexts over a memory with what they share, and when these are a world's (PLRM2, 3.4, 7.1).
-use Rattle.std.specs.Prelude.{◌≡◌, ◌≢◌, ℕ, ◌+◌, ◌-◌, nat_lt, option_and_then, ◌==◌, ◌&&◌, ◌||◌}
+use Rattle.std.specs.Prelude.{◌≡◌, ℕ, ◌+◌, ◌-◌, nat_lt, option_and_then, ◌==◌, ◌&&◌, ◌||◌}
 use Rattle.std.specs.Prelude.{Bool, true, false, not, nat_eq, Option, Some, None, IfSome}
-use Rattle.std.specs.Prelude.{option_map, List, [], ◌∷◌, ◌++◌, length, map, AllPairs, vec_capacity}
+use Rattle.std.specs.Prelude.{option_map, List, [], ◌∷◌, ◌++◌, length, map, vec_capacity}
 use Rattle.std.specs.Prelude.{if◌then◌else◌}
 use Rattle.std.specs.List.{AllByRecursion}
 use Rattle.std.specs.Option.{option_map_or}
@@ -16,6 +16,7 @@ use Rattle.ps_mem.specs.Heap.{Heap, Grants, birth_at}
 use Rattle.ps_mem.specs.Keeps.{Keeps}
 use Rattle.ps_mem.specs.References.{StandsAs}
 use Rattle.ps_mem.specs.Shows.{IsSound, Shows}
+use Rattle.ps_names.specs.Names.{AreNames}
 use Rattle.ps_ops_operands.specs.FirstNames.{BeginWithFirst}
 use Rattle.ps_ops_control.specs.declared.frames.Frame.{Frame}
 use Rattle.ps_ops_state.specs.declared.lent.Context.{Context}
@@ -144,11 +145,11 @@ pub record IsGoodMember (d : Desk) (member : Member) : Type 0 where
   pub good : IsGood (lent_to d member.context)
   pub course : IsCourseHeld d.heap member.course
 
--- The memory is sound, no name is met twice, the names begin with the first ones, nothing is left
--- of what an operator read, and each context is good
+-- The memory is sound, the names are such as may be met and begin with the first ones, nothing is
+-- left of what an operator read, and each context is good
 pub record IsSteady (d : Desk) : Type 0 where
   pub sound : IsSound d.heap
-  pub names : AllPairs (λ one later. one ≢ later) d.names
+  pub names : AreNames d.names
   pub first : BeginWithFirst d.names
   pub empty : IsEmpty d.scratch
   pub members : AllMembers (IsGoodMember d) d.members
@@ -172,7 +173,7 @@ pub record GoesOn (old new : Desk) : Type 0 where
   pub program : new.program ≡ old.program
   pub most : new.most ≡ old.most
   pub sound : IsSound new.heap
-  pub distinct : AllPairs (λ one later. one ≢ later) new.names
+  pub are : AreNames new.names
   pub first : BeginWithFirst new.names
   pub empty : IsEmpty new.scratch
 

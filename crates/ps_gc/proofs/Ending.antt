@@ -3,6 +3,7 @@ use Rattle.std.proofs.Common.{◌≡◌, ◌≢◌, ℕ, ◌+◌, ◌-◌, ◌<�
 use Rattle.std.proofs.Common.{◌++◌, length, Some, None, Option, is_some, refl, sym, ap, ◌∙◌, inl, inr, subst, arith}
 use Rattle.std.proofs.Common.{cond}
 use Rattle.std.specs.Prelude.{◌==◌, slice_get}
+use Rattle.std.specs.Prelude.{Result, Ok, Err}
 use Rattle.std.proofs.lemmas.List.{append-nil}
 use Rattle.std.proofs.Math.Logic.{∥∥₁_elim}
 use Rattle.std.proofs.Props.{props}
@@ -36,8 +37,7 @@ use Rattle.ps_gc.specs.declared.collector.Drained.{Drained}
 use Rattle.ps_gc.specs.declared.collector.Drained.TheVariants.{Nothing, Took, Closed}
 use Rattle.ps_gc.specs.Ending.{FindsNext, IsEnded, KeepsReplicas, Scans, StaysBut, record_found}
 use Rattle.ps_gc.specs.Events.{Copied, DrainedOf, IsLike, is_drained}
-use Rattle.ps_core_laws.specs.declared.tries.Flip.{Flip}
-use Rattle.ps_core_laws.specs.declared.tries.Flip.TheVariants.{Done, NotReady}
+use Rattle.ps_core_laws.specs.declared.tries.Unready.{Unready}
 use Rattle.ps_core_laws.specs.declared.tries.Unready.TheVariants.{LogOpen, Undrained, Unscanned, RootNotCopied}
 use Rattle.ps_gc.specs.Flipping.{Answers, AreDrained, MayFlip}
 use Rattle.ps_gc.proofs.Flipping.{all_drained}
@@ -403,10 +403,10 @@ ended_scanned slot old new k x e = record {
 -- ---- the flip
 
 -- where all is ready a flip is made
-pub must_flip : (v : Vm) (g : Gc) (roots : List ℕ) (result : Flip) → MayFlip v g roots
-    → Answers v g roots result → result ≡ Done
-must_flip v g roots Done may a = refl
-must_flip v g roots (NotReady LogOpen) may a = absurd (a may.0.0.0)
-must_flip v g roots (NotReady Undrained) may a = absurd (a.1 may.0.0.1)
-must_flip v g roots (NotReady Unscanned) may a = absurd (true≢false (sym may.0.1 ∙ a.1))
-must_flip v g roots (NotReady RootNotCopied) may a = absurd (true≢false (sym may.1 ∙ a.1))
+pub must_flip : (v : Vm) (g : Gc) (roots : List ℕ) (result : Result Unit Unready) → MayFlip v g roots
+    → Answers v g roots result → result ≡ Ok tt
+must_flip v g roots (Ok tt) may a = refl
+must_flip v g roots (Err LogOpen) may a = absurd (a may.0.0.0)
+must_flip v g roots (Err Undrained) may a = absurd (a.1 may.0.0.1)
+must_flip v g roots (Err Unscanned) may a = absurd (true≢false (sym may.0.1 ∙ a.1))
+must_flip v g roots (Err RootNotCopied) may a = absurd (true≢false (sym may.1 ∙ a.1))

@@ -1,6 +1,7 @@
 -- A try to flip by a seat that has both sides, behind looks that left them, as both sides are seen.
 use Rattle.std.proofs.Common.{◌≡◌, ◌+◌, false, List, [], ◌∷◌, length, map, refl, sym, ap, ◌∙◌, subst}
 use Rattle.std.proofs.Common.{arith, true≢false}
+use Rattle.std.specs.Prelude.{Ok, Err}
 use Rattle.ps_word.specs.declared.words.Word.{Word}
 use Rattle.ps_core_machine.specs.declared.events.Event.{Event}
 use Rattle.ps_core_machine.specs.declared.events.Event.TheVariants.{CycleStore}
@@ -9,7 +10,6 @@ use Rattle.ps_core_machine.specs.declared.events.Vm.{Vm}
 use Rattle.ps_core_machine.specs.Conditions.{VmMay, GcMay}
 use Rattle.ps_core_machine.specs.Objects.{renamed_value}
 use Rattle.ps_core_machine.specs.Steps.{vm_after}
-use Rattle.ps_core_laws.specs.declared.tries.Flip.TheVariants.{Done, NotReady}
 use Rattle.ps_core_laws.specs.declared.tries.Unready.{Unready}
 use Rattle.ps_core_laws.specs.Collected.{IsCollected, IsExact}
 use Rattle.ps_core_laws.specs.Flips.{AfterFlip, replica_at, as_words}
@@ -34,7 +34,7 @@ use Rattle.ps_gc.proofs.Reaching.{moves_reached}
 
 pub no_flip : (old m : View) (roots : List Word) (why : Unready) → m.vm ≡ old.vm
     → OnlyLooks (length roots + 1) old.vm_events m.vm_events → m.gc_events ≡ old.gc_events
-    → IsFlip (NotReady why) (sides_seen old old) (sides_seen m m) roots roots
+    → IsFlip (Err why) (sides_seen old old) (sides_seen m m) roots roots
 no_flip old m roots why vm looks none = record {
   moved = λ e. absurd (true≢false (sym e));
   grants = λ e. absurd (true≢false (sym e));
@@ -74,7 +74,7 @@ module _ (old m n : View) (roots renamed : List Word) (vm : m.vm ≡ old.vm) (gc
         ∙ ap (moved_words (replica_at old.gc.pairs)) (as_they_are roots))));
   }
 
-  pub flip_is : IsFlip Done (sides_seen old old) (sides_seen n n) roots renamed
+  pub flip_is : IsFlip (Ok tt) (sides_seen old old) (sides_seen n n) roots renamed
   flip_is =
       let kept = keeps_vm m _ (root_looks m.gc (numbers roots)) refl in
       let one : OnlyLooks 1 m.vm_events n.vm_events = record {

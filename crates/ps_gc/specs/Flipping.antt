@@ -1,5 +1,6 @@
 -- When a flip can come, and what it makes of the memory.
-use Rattle.std.specs.Prelude.{◌≡◌, ◌≢◌, ℕ, true, false, List, Option, Some, None}
+use Rattle.std.specs.Prelude.{◌≡◌, ◌≢◌, ℕ, true, false, List, Option, Some, None, Result, Ok}
+use Rattle.std.specs.Prelude.{Err}
 use Rattle.ps_core_machine.specs.declared.events.Vm.{Vm}
 use Rattle.ps_core_machine.specs.declared.events.Gc.{Gc}
 use Rattle.ps_core_machine.specs.Conditions.{AllClosed}
@@ -7,8 +8,6 @@ use Rattle.ps_core_machine.specs.Objects.{all_filled, values_have_replicas}
 use Rattle.ps_core_laws.specs.Memory.{heap_of, grants_of}
 use Rattle.ps_core_laws.specs.Tries.{BothSides}
 use Rattle.ps_table.specs.declared.plays.View.{View}
-use Rattle.ps_core_laws.specs.declared.tries.Flip.{Flip}
-use Rattle.ps_core_laws.specs.declared.tries.Flip.TheVariants.{Done, NotReady}
 use Rattle.ps_core_laws.specs.declared.tries.Unready.{Unready}
 use Rattle.ps_core_laws.specs.declared.tries.Unready.TheVariants.{LogOpen, Undrained, Unscanned}
 use Rattle.ps_core_laws.specs.declared.tries.Unready.TheVariants.{RootNotCopied}
@@ -33,14 +32,14 @@ IsFirst v g roots Unscanned = AreDrained v g × (all_filled g.pairs ≡ false)
 IsFirst v g roots RootNotCopied =
     AreScanned v g × (values_have_replicas g.pairs roots ≡ false)
 
-abbrev pub Answers : Vm → Gc → List ℕ → Flip → Type 0
-Answers v g roots Done = MayFlip v g roots
-Answers v g roots (NotReady why) = IsFirst v g roots why
+abbrev pub Answers : Vm → Gc → List ℕ → Result Unit Unready → Type 0
+Answers v g roots (Ok tt) = MayFlip v g roots
+Answers v g roots (Err why) = IsFirst v g roots why
 
 -- a try that this hinders, or that nothing hinders, comes to
-abbrev pub flip_but_for : Option Unready → Flip
-flip_but_for (Some why) = NotReady why
-flip_but_for None = Done
+abbrev pub flip_but_for : Option Unready → Result Unit Unready
+flip_but_for (Some why) = Err why
+flip_but_for None = Ok tt
 
 -- ---- what is seen
 

@@ -20,7 +20,7 @@ ghost use Rattle.ps_gc.specs.Known.{are_known};
 use crate::naming::Naming;
 use crate::seats::MutatorSeat;
 use crate::{ACTIONS_A_LOOK, Collector, Drained};
-use ps_core_laws::Flip;
+use ps_core_laws::Unready;
 use ps_core_laws::sides::{Collects, Works};
 use ps_mem::Memory;
 use ps_record::slots::Slot;
@@ -217,7 +217,7 @@ impl<J: Naming> Collects<MutatorSeat<J>> for Copier<J> {
 
     /// As the collector's: exactly where all logs are closed and drained, all fields filled, and
     /// what the roots refer to has replicas; else it answers the first of these that doesn't hold.
-    fn try_flip(&mut self, memory: &mut MutatorSeat<J>, roots: &mut [Word]) -> Flip
+    fn try_flip(&mut self, memory: &mut MutatorSeat<J>, roots: &mut [Word]) -> Result<(), Unready>
         requires values { AreValues (heap_of memory.old.vm.seat.me.0.vm) roots.old }
         requires open { is_open memory.old.vm.seat.me.0.vm ≡ true }
         ensures answer { Answers memory.old.vm.seat.me.0.vm
@@ -229,12 +229,12 @@ impl<J: Naming> Collects<MutatorSeat<J>> for Copier<J> {
     {
         let used = memory.vm.used();
         match self.collector.try_flip(&mut memory.vm, roots) {
-            Flip::NotReady(why) => Flip::NotReady(why),
-            Flip::Done => {
+            Err(why) => Err(why),
+            Ok(()) => {
                 self.pending.clear();
                 self.unclear = used;
                 self.in_cycle = false;
-                Flip::Done
+                Ok(())
             }
         }
     }

@@ -13,7 +13,7 @@ ghost use Rattle.ps_gc.specs.Ending.{IsEnded, KeepsReplicas, StaysBut};
 ghost use Rattle.ps_gc.specs.Events.{is_drained};
 
 use crate::collector::{Collector, Drained};
-use ps_core_laws::{Closing, Flip};
+use ps_core_laws::{Closing, Unready};
 use ps_record::SLOTS;
 use ps_record::slots::Slot;
 use ps_table::{Mirror, VmSeat, Words, join, part};
@@ -143,8 +143,8 @@ pub fn joined_end_cycle<W: Words>(
     // So both sides are known to be those of one run, in which all is taken then.
     collector.gc.meet(mirror);
     match collector.joined_try_flip(mirror, roots) {
-        Flip::Done => {}
-        Flip::NotReady(_) => unreachable!(),
+        Ok(()) => {}
+        Err(_) => unreachable!(),
     }
 }
 

@@ -1,6 +1,6 @@
 //! The flip, which comes only where all is ready for it, and the roots that are handed over.
 ghost use Rattle.std.specs.Prelude.{◌≡◌, ◌+◌, ◌<◌, ◌↔◌, ℕ, IsTrue, true, false, length};
-ghost use Rattle.std.specs.Prelude.{None, slice_index};
+ghost use Rattle.std.specs.Prelude.{None, Ok, Err, slice_index};
 ghost use Rattle.ps_record.specs.Format.{slots};
 ghost use Rattle.ps_core_machine.specs.declared.events.Event.TheVariants.{CycleStore, HandOver};
 ghost use Rattle.ps_core_machine.specs.Conditions.{AllClosed};
@@ -20,7 +20,7 @@ ghost use Rattle.ps_gc.specs.Flipping.{Answers, flip_but_for, sides_seen};
 use crate::collector::Collector;
 use crate::taken::Taken;
 use atomic_table::Seat;
-use ps_core_laws::{Flip, Unready};
+use ps_core_laws::Unready;
 use ps_record::SLOTS;
 use ps_record::slots::Slot;
 use ps_table::{GcSeat, Mirror, View, VmSeat, Words, join, part};
@@ -139,7 +139,11 @@ impl<W: Words> Collector<W> {
     /// Ends the open cycle by the flip, by a seat that has both sides. All logs must be closed and
     /// drained, all fields filled, and what the roots refer to must have replicas. Else it answers
     /// the first of these that doesn't hold.
-    pub fn joined_try_flip(&mut self, mirror: &mut Mirror, roots: &mut [Word]) -> Flip
+    pub fn joined_try_flip(
+        &mut self,
+        mirror: &mut Mirror,
+        roots: &mut [Word],
+    ) -> Result<(), Unready>
         requires sits { Sits (W.id self.old.gc.table).words self.old.gc.seat.me mirror.old }
         requires open { is_open self.old.gc.seat.me.0.vm ≡ true }
         requires stand { values_stand self.old.gc.seat.me.0.vm.objects (numbers roots.old)
@@ -151,24 +155,24 @@ impl<W: Words> Collector<W> {
         ensures flips { IsFlip result
             (sides_seen self.old.gc.seat.me.0 self.old.gc.seat.me.0)
             (sides_seen self.new.gc.seat.me.0 self.new.gc.seat.me.0) roots.old roots.new }
-        ensures parts { result ≡ Flip.Done → (self.new.gc.seat.me.0.vm ≡ vm_after
+        ensures parts { result ≡ Ok tt → (self.new.gc.seat.me.0.vm ≡ vm_after
             self.old.gc.seat.me.0.vm self.old.gc.seat.me.0.gc (CycleStore (numbers roots.old)))
             × (self.new.gc.seat.me.0.gc ≡ gc_after self.old.gc.seat.me.0.gc
             self.old.gc.seat.me.0.vm (CycleStore (numbers roots.old))) }
         // The collector knows of no open cycle then.
-        ensures knows { result ≡ Flip.Done → knows_open self.new.gc.seat.me.0.gc ≡ false }
+        ensures knows { result ≡ Ok tt → knows_open self.new.gc.seat.me.0.gc ≡ false }
         // Where nothing was stored in the cycle, and the roots are those handed over in it, just
         // what they reach was moved.
-        ensures exact { result ≡ Flip.Done → self.old.gc.seat.me.0.vm.stored ≡ false
+        ensures exact { result ≡ Ok tt → self.old.gc.seat.me.0.vm.stored ≡ false
             → NameTheSame self.old.gc.seat.me.0.gc.handed (numbers roots.old)
             → IsExact (heap_of self.old.gc.seat.me.0.vm)
             (heap_of self.new.gc.seat.me.0.vm) roots.old roots.new }
-        ensures kept { (why : Unready) → result ≡ Flip.NotReady why
+        ensures kept { (why : Unready) → result ≡ Err why
             → (self.new.gc.seat.me.0.vm ≡ self.old.gc.seat.me.0.vm)
             × (self.new.gc.seat.me.0.gc ≡ self.old.gc.seat.me.0.gc) }
     {
         match self.hindrance(mirror, roots) {
-            Some(why) => Flip::NotReady(why),
+            Some(why) => Err(why),
             None => {
                 self.gc.store_cycle::<Brand>(mirror, roots, self.to.end);
                 self.to.cycle += 1;
@@ -177,7 +181,7 @@ impl<W: Words> Collector<W> {
                 self.to.at = low;
                 self.to.field = 0;
                 self.taken.closed = [false; SLOTS as usize];
-                Flip::Done
+                Ok(())
             }
         }
     }
@@ -205,7 +209,7 @@ impl Collector {
 
     /// Ends the open cycle by the flip, where all logs are closed and drained, all fields filled
     /// and what the roots refer to has replicas; else answers the first of these that doesn't hold.
-    pub fn try_flip(&mut self, vm: &mut VmSeat, roots: &mut [Word]) -> Flip
+    pub fn try_flip(&mut self, vm: &mut VmSeat, roots: &mut [Word]) -> Result<(), Unready>
         requires same { vm.old.seat.table_id ≡ self.old.gc.seat.table_id }
         requires open { is_open vm.old.seat.me.0.vm ≡ true }
         requires stand { values_stand vm.old.seat.me.0.vm.objects (numbers roots.old) ≡ true }
@@ -213,16 +217,16 @@ impl Collector {
             (numbers roots.old) result }
         ensures flips { IsFlip result (sides_seen vm.old.seat.me.0 self.old.gc.seat.me.0)
             (sides_seen vm.new.seat.me.0 self.new.gc.seat.me.0) roots.old roots.new }
-        ensures parts { result ≡ Flip.Done → (vm.new.seat.me.0.vm ≡ vm_after
+        ensures parts { result ≡ Ok tt → (vm.new.seat.me.0.vm ≡ vm_after
             vm.old.seat.me.0.vm self.old.gc.seat.me.0.gc (CycleStore (numbers roots.old)))
             × (self.new.gc.seat.me.0.gc ≡ gc_after self.old.gc.seat.me.0.gc
             vm.old.seat.me.0.vm (CycleStore (numbers roots.old))) }
-        ensures knows { result ≡ Flip.Done → knows_open self.new.gc.seat.me.0.gc ≡ false }
-        ensures exact { result ≡ Flip.Done → vm.old.seat.me.0.vm.stored ≡ false
+        ensures knows { result ≡ Ok tt → knows_open self.new.gc.seat.me.0.gc ≡ false }
+        ensures exact { result ≡ Ok tt → vm.old.seat.me.0.vm.stored ≡ false
             → NameTheSame self.old.gc.seat.me.0.gc.handed (numbers roots.old)
             → IsExact (heap_of vm.old.seat.me.0.vm)
             (heap_of vm.new.seat.me.0.vm) roots.old roots.new }
-        ensures kept { (why : Unready) → result ≡ Flip.NotReady why
+        ensures kept { (why : Unready) → result ≡ Err why
             → (vm.new.seat.me.0.vm ≡ vm.old.seat.me.0.vm)
             × (self.new.gc.seat.me.0.gc ≡ self.old.gc.seat.me.0.gc) }
         ensures same { (self.new.gc.seat.table_id ≡ self.old.gc.seat.table_id)

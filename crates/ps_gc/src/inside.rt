@@ -5,7 +5,7 @@ ghost use Rattle.ps_gc.specs.Flipping.{Answers};
 
 use crate::endings::{hand, joined_end_cycle, joined_whole_cycle};
 use crate::space::CollectedSpace;
-use ps_core_laws::Flip;
+use ps_core_laws::Unready;
 use ps_core_laws::sides::Collects;
 use ps_table::Words;
 use ps_word::words::Word;
@@ -29,7 +29,11 @@ impl<W: Words> Collects<CollectedSpace<W>> for Inside {
         }
     }
 
-    fn try_flip(&mut self, memory: &mut CollectedSpace<W>, roots: &mut [Word]) -> Flip {
+    fn try_flip(
+        &mut self,
+        memory: &mut CollectedSpace<W>,
+        roots: &mut [Word],
+    ) -> Result<(), Unready> {
         memory.collector.joined_try_flip(&mut memory.mirror, roots)
     }
 

@@ -9,6 +9,7 @@ ghost use Rattle.ps_core_machine.specs.declared.events.Event.TheVariants.{VmLoad
 ghost use Rattle.ps_core_machine.specs.Steps.{start};
 ghost use Rattle.ps_core_laws.specs.Memory.{heap_of, grants_of};
 ghost use Rattle.ps_table.specs.Events.{did_all, head_loads};
+ghost use Rattle.ps_table.proofs.Addressed.{addressed};
 
 use crate::Collector;
 use crate::copiers::Copier;
@@ -166,4 +167,6 @@ impl<J: Naming> LoggedMemory for MutatorSeat<J> {
     }
 
     ghost bounded = { λ s. refl };
+
+    ghost addressed = { λ s. addressed s.vm.seat.me.0.vm s.vm.sits.runs };
 }

@@ -10,6 +10,7 @@ ghost use Rattle.ps_core_machine.specs.Steps.{is_open, knows_open};
 ghost use Rattle.ps_core_laws.specs.Runs.{IsSpace};
 ghost use Rattle.ps_core_laws.specs.Memory.{heap_of, grants_of};
 ghost use Rattle.ps_table.specs.Mirrored.{KeepsVm, Sits};
+ghost use Rattle.ps_table.proofs.Addressed.{addressed};
 ghost use Rattle.ps_gc.specs.Keeps.{taken_in_all};
 
 use crate::collector::{ACTIONS_A_LOOK, Collector, Drained};
@@ -219,6 +220,8 @@ impl<W: Words> LoggedMemory for CollectedSpace<W> {
     }
 
     ghost bounded = { λ s. refl };
+
+    ghost addressed = { λ s. addressed s.collector.gc.seat.me.0.vm s.sits.runs };
 }
 
 impl<W: Words> CollectedMemory for CollectedSpace<W> {

@@ -18,10 +18,11 @@ use Rattle.ps_ctx_table.specs.Desks.{Desk, desk, lent_to, AllMembers, IsWorld, I
 use Rattle.ps_ctx.specs.declared.worlds.Calling.{Calling}
 use Rattle.ps_ctx.specs.Calls.{over}
 use Rattle.ps_ctx.specs.Held.{Held, held, IsAtBy, AreFramedBy}
+use Rattle.ps_gc_roots.specs.Formats.{AreInFormat}
 use Rattle.ps_gc_roots.specs.Roots.{roots_in}
 use Rattle.ps_gc_roots.specs.Renamed.{Renaming, renamed_members, moved_desk}
 use Rattle.ps_gc_roots.specs.Moved.{KeepsWorlds}
-use Rattle.ps_gc_roots.proofs.Membering.{members-values, members-led, members-shown, contexts-same, all_framed-renamed}
+use Rattle.ps_gc_roots.proofs.Membering.{members-values, members-format, members-led, members-shown, contexts-same, all_framed-renamed}
 use Rattle.ps_gc_roots.proofs.Membering.{framed_but-renamed, runs-renamed}
 
 -- ---- a move
@@ -185,6 +186,11 @@ keeps-then a b c first then = record {
 -- ---- contexts over a memory
 
 module _ (h now : Heap) (grants after : Grants) (shared : Shared) (before : Contexts) where
+  -- what is read of them has a place in a word
+  pub over-format : IsSteady (over h grants shared before) → IsAddressed h → AreInFormat before.table
+  over-format steady addressed =
+      members-format (over h grants shared before) addressed before.table steady.members
+
   -- what a collector is handed
   pub over-values : (words : List Word) → now ≡ h → words ≡ roots_in before.table
       → IsSteady (over h grants shared before) → IsAddressed h → AreValues now words

@@ -16,7 +16,7 @@ ghost use Rattle.ps_gc_roots.specs.declared.reading.TheConstants.{ROOT_LIMIT};
 
 use crate::reading::{ROOT_LIMIT, read_roots};
 use crate::writing::write_roots;
-use ps_core_laws::Flip;
+use ps_core_laws::Unready;
 use ps_core_laws::sides::{Collects, LoggedMemory};
 use ps_ctx_table::contexts::Contexts;
 use ps_ops_state::lent::Runtime;
@@ -52,7 +52,6 @@ pub fn open_cycle<M: LoggedMemory>(runtime: &mut Runtime<M>, contexts: &Contexts
         (held (over_of M.heap M.grants runtime.old contexts.now) calling)
         (held (over_of M.heap M.grants runtime.new contexts.now) calling) }
 {
-    let _left = contexts.table.left();
     runtime.memory.open_cycle()
 }
 
@@ -72,7 +71,6 @@ pub fn hand_over<M: LoggedMemory, C: Collects<M>>(
         (held (over_of M.heap M.grants runtime.old contexts.now) calling)
         (held (over_of M.heap M.grants runtime.new contexts.now) calling) }
 {
-    runtime.memory.is_open();
     read_roots(contexts, &mut roots.words);
     hand_read(runtime, collector, contexts, roots);
 }
@@ -94,19 +92,19 @@ pub fn hand_read<M: LoggedMemory, C: Collects<M>>(
         (held (over_of M.heap M.grants runtime.old contexts.now) calling)
         (held (over_of M.heap M.grants runtime.new contexts.now) calling) }
 {
-    runtime.memory.is_open();
     collector.hand_over(&mut runtime.memory, roots.words.as_slice());
 }
 
 /// Ends the open cycle by the flip, where all is ready for it: the objects move, and the roots of
-/// all contexts are renamed. What contexts and memory stand for is the same. `NotReady`: nothing
-/// has moved, and the list has the roots of all contexts as they were read.
+/// all contexts are renamed. What contexts and memory stand for is the same. `Unready` says why
+/// that can't come yet: nothing has moved, and the list has the roots of all contexts as they were
+/// read.
 pub fn try_flip<M: LoggedMemory, C: Collects<M>>(
     runtime: &mut Runtime<M>,
     collector: &mut C,
     contexts: &mut Contexts,
     roots: &mut RootList,
-) -> Flip
+) -> Result<(), Unready>
     requires steady { IsSteady (over_of M.heap M.grants runtime.old contexts.old) }
     requires open { (M.grants runtime.old.memory).cycle_open ≡ true }
     ensures answer { C.answers collector.old runtime.old.memory (roots_in contexts.old.table)
@@ -121,13 +119,12 @@ pub fn try_flip<M: LoggedMemory, C: Collects<M>>(
     ensures shared { runtime.new.shared ≡ runtime.old.shared }
     ensures faulted { contexts.new.has_faulted ≡ contexts.old.has_faulted }
 {
-    runtime.memory.is_open();
     read_roots(contexts, &mut roots.words);
     match collector.try_flip(&mut runtime.memory, roots.words.as_mut_slice()) {
-        Flip::NotReady(why) => Flip::NotReady(why),
-        Flip::Done => {
+        Err(why) => Err(why),
+        Ok(()) => {
             write_roots(contexts, roots.words.as_slice());
-            Flip::Done
+            Ok(())
         }
     }
 }
@@ -183,7 +180,6 @@ pub fn end_read<M: LoggedMemory, C: Collects<M>>(
     ensures shared { runtime.new.shared ≡ runtime.old.shared }
     ensures faulted { contexts.new.has_faulted ≡ contexts.old.has_faulted }
 {
-    runtime.memory.is_open();
     collector.end_cycle(&mut runtime.memory, roots.words.as_mut_slice());
     write_roots(contexts, roots.words.as_slice());
 }

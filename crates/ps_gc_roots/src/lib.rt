@@ -3,8 +3,9 @@
 //! the same world of the definitions (PLRM2, 7.1).
 //!
 //! Why so:
-//! - RootList are a list of words, and `write_roots` promises a renaming by any function on words. So
-//!   it knows nothing of forwarding. The list is made once and is large enough for all contexts.
+//! - Roots are a list of words (`RootList`), and `write_roots` promises a renaming by any function
+//!   on words. So it knows nothing of forwarding. The list is made once and is large enough for all
+//!   contexts.
 //! - The roots that a try to flip read are handed over, or end the cycle, by whoever made the try
 //!   (`hand_read`, `end_read`), and aren't read again. A vault does so in the same call: it is seen
 //!   without its contexts, so who calls it can't say that a list has their roots.

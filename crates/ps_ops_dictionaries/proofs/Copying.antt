@@ -143,7 +143,7 @@ module _ (l : Lent) (good : IsGood l) (y x : Word) (two : Some (y, x) ≡ first_
       module _ (store : Store) (shown : IsShown l store) where
         plan_is : merge_plan_at l.heap to from ≡ merge_planned (target_in store) (source_in store)
         plan_is = planned-shown l.heap good.sound to from target_stands source_stands l.names store
-            shown.shows good.names
+            shown.shows good.names.different
 
         pub copy_full : merge_plan_at l.heap to from ≡ Full
             → effect_in (changing_row copy_row) l store ≡ raises LimitCheck
@@ -232,7 +232,7 @@ module _ (l : Lent) (good : IsGood l) (y x : Word) (two : Some (y, x) ≡ first_
           room_is : (copy_asks (scene_of l store)).scratch.words ≡ merge_room l.heap to from
           room_is = ap (λ (a : Asked). a.scratch.words) asks_are
               ∙ sym (room-shown l.heap good.sound to from target_stands source_stands l.names
-              store shown.shows good.names)
+              store shown.shows good.names.different)
 
           births_same : length left_store - length store ≡ 0
           unfolding with_dictionary

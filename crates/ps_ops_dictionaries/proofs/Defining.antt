@@ -206,7 +206,7 @@ module _ (l : Lent) (x k : Word) (two : Some (x, k) ≡ first_two_of l.operands)
         shown.operands x k two in
         let sought = sought_by (birth_at l.heap) l.names store store_key read
         (are.shown store shown.shows inside) in
-        places l.names store (key_of store store_key) shown.shows good.names
+        places l.names store (key_of store store_key) shown.shows good.names.different
         (rw word_is sought)
 
     abbrev tail : Store → Value → Outcome Naming

@@ -1,5 +1,5 @@
 -- What `>>` comes to.
-use Rattle.std.proofs.Common.{◌≡◌, ◌≢◌, ℕ, ◌+◌, ◌-◌, ◌≤◌, ◌++◌, arith, inl, inr, AllPairs, length-append, Bool, true}
+use Rattle.std.proofs.Common.{◌≡◌, ℕ, ◌+◌, ◌-◌, ◌≤◌, ◌++◌, arith, inl, inr, length-append, Bool, true}
 use Rattle.std.proofs.Common.{false, List, [], ◌∷◌, drop, take, length, Option, Some, None, Err, refl, sym, ap, subst}
 use Rattle.std.proofs.Common.{◌∙◌, append-nil}
 use Rattle.std.specs.Prelude.{nat_le, reverse}
@@ -22,6 +22,7 @@ use Rattle.ps_word.specs.declared.words.Word.{Word}
 use Rattle.ps_language.proofs.AskedLemmas.{made-new}
 use Rattle.ps_mem.specs.Heap.{Grants, birth_at}
 use Rattle.ps_mem.specs.Shows.{AreWithin, Shows}
+use Rattle.ps_names.specs.Names.{AreNames}
 use Rattle.ps_ops_operands.specs.Marks.{IsMarkAt}
 use Rattle.ps_ops_operands.specs.declared.failure.NotMade.{NotMade as Reason}
 use Rattle.ps_ops_operands.specs.Changes.{KeepsLogsWithin, values_in}
@@ -171,7 +172,7 @@ module _ (l : Lent) (depth : ℕ) (mark : IsMarkAt l.operands depth) (elements :
         (more names : List (List ℕ)) (are_more : names ≡ l.names ++ more)
         (met : (s : Store) → Shows l.heap l.names s → AreWithin l.heap l.names s elements
         → met_among l.names s values ≡ names)
-        (distinct : AllPairs (λ one later. one ≢ later) names) where
+        (are_names : AreNames names) where
       lacks : (grants : Grants) (store : Store) → IsShown l store
           → Lacks l more names are_more (naming_row end_dict_row) attempt grants store
       lacks grants store shown = record {
@@ -187,7 +188,7 @@ module _ (l : Lent) (depth : ℕ) (mark : IsMarkAt l.operands depth) (elements :
       }
 
       well : IsGood (record l { names = names })
-      well = formed_good l more names are_more good distinct
+      well = formed_good l more names are_more good are_names
 
       -- none is new
       pub end_refused : length names ≡ length l.names

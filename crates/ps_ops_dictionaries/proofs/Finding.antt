@@ -152,7 +152,7 @@ module _ (l : Lent) (k d : Word) (two : Some (k, d) ≡ first_two_of l.operands)
           let sought = sought_by (birth_at l.heap) l.names store key read
           (are.shown store shown.shows inside) in
           known_there may truth store shown
-          (ap is_some (sym (finds l.names store (key_of store key) shown.shows good.names
+          (ap is_some (sym (finds l.names store (key_of store key) shown.shows good.names.different
           (rw word_is sought)))
           ∙ (some_map (value_of (birth_at l.heap) l.names) found ∙ sym truth_is))
 
@@ -251,7 +251,7 @@ module _ (l : Lent) (k d : Word) (a : ℕ) (two : Some (k, d) ≡ first_two_of l
               dictionary_has (birth_at l.heap) l.names store d a is,
               sym (value l.names store shown.shows),
               may,
-              sym (finds l.names store (key_of store get_key) shown.shows good.names
+              sym (finds l.names store (key_of store get_key) shown.shows good.names.different
                   (rw word_is sought)),
             ) refl
 
@@ -307,7 +307,7 @@ module _ (l : Lent) (k : Word) (one : Some k ≡ first_of l.operands) where
         shown.operands k one in
         let sought = sought_by (birth_at l.heap) l.names store load_key read
         (are.shown store shown.shows inside) in
-        looks l.names store (key_of store load_key) shown.shows good.names (rw word_is sought)
+        looks l.names store (key_of store load_key) shown.shows good.names.different (rw word_is sought)
 
     load_is : (store : Store) → IsShown l store → effect_in (looking_row load_row) l store
         ≡ naming_effect (scene_of l store)

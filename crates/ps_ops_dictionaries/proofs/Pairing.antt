@@ -1,5 +1,5 @@
 -- The dictionary of what stands above the mark, made or not.
-use Rattle.std.proofs.Common.{◌≡◌, ◌≢◌, ℕ, ◌+◌, ◌-◌, ◌*◌, ◌/◌, ◌≤◌, ◌++◌, arith, inl, inr, AllPairs, length-append}
+use Rattle.std.proofs.Common.{◌≡◌, ℕ, ◌+◌, ◌-◌, ◌*◌, ◌/◌, ◌≤◌, ◌++◌, arith, inl, inr, length-append}
 use Rattle.std.proofs.Common.{Bool, true, false, List, [], ◌∷◌, drop, take, length, map, Option, Some, None, Ok, Err}
 use Rattle.std.proofs.Common.{refl, sym, ap, subst, ◌∙◌, append-nil}
 use Rattle.std.specs.Prelude.{fold, not, reverse, unwrap_or}
@@ -24,6 +24,7 @@ use Rattle.ps_mem.specs.Meaning.{value_of}
 use Rattle.ps_mem.specs.Shows.{AreValues, AreWithin, IsReady, IsValue, IsWithin, Shows, pair_of}
 use Rattle.ps_mem.proofs.KeepsLemmas.{AreWithin-kept, values_of-kept, known_values}
 use Rattle.ps_mem.proofs.NewShows.{longer}
+use Rattle.ps_names.specs.Names.{AreNames}
 use Rattle.ps_ops_operands.specs.Marks.{IsMarkAt}
 use Rattle.ps_ops_operands.specs.declared.failure.NotMade.{NotMade as Reason}
 use Rattle.ps_ops_operands.specs.Changes.{IsLeft as IsLeftBy, KeepsLogsWithin, values_in}
@@ -277,7 +278,7 @@ module _ (l : Lent) (depth : ℕ) (mark : IsMarkAt l.operands depth) (elements :
     module _ (more names : List (List ℕ)) (are_more : names ≡ l.names ++ more)
         (met : (s : Store) → Shows l.heap l.names s → AreWithin l.heap l.names s elements
         → met_among l.names s above ≡ names)
-        (distinct : AllPairs (λ one later. one ≢ later) names) (heap : Heap) (after : List Word)
+        (are_names : AreNames names) (heap : Heap) (after : List Word)
         (keeps : Keeps l.heap heap) (ready : IsReady heap after)
         (leaves_pairs : (s : Store) (pairs : List (Value × Value)) → Shows l.heap names s
         → AreWithin l.heap names s l.operands
@@ -293,7 +294,7 @@ module _ (l : Lent) (depth : ℕ) (mark : IsMarkAt l.operands depth) (elements :
           { heap = heap; grants = grants; operands = after; names = names; scratch = scratch }
 
       well : IsGood formed
-      well = formed_good l more names are_more good distinct
+      well = formed_good l more names are_more good are_names
 
       changed : IsGood (over formed heap grants after)
       changed = changed_good formed well heap grants after keeps ready

@@ -123,7 +123,7 @@ module _ (l : Lent) (good : IsGood l) (a : ℕ) (k x : Word) (count : ℕ) (plan
       before = dictionary_at store birth
 
       pub planned_is : planned before key ≡ plan
-      planned_is = plan-shown l.heap a known good.sound l.names store shown.shows k k_held good.names
+      planned_is = plan-shown l.heap a known good.sound l.names store shown.shows k k_held good.names.different
           (inside store shown).0 ∙ sym plan_is
 
       few : length before.pairs ≤ before.capacity

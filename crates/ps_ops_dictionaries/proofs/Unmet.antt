@@ -1,6 +1,6 @@
 -- A put of a key that is a string of which no name was met.
 use Rattle.std.proofs.Common.{◌≡◌, ◌≢◌, ℕ, ◌+◌, ◌-◌, ◌≤◌, ◌<◌, ◌++◌, arith, Bool, true, false, List, [], ◌∷◌, drop}
-use Rattle.std.proofs.Common.{take, length, Option, Some, None, Ok, Err, refl, sym, ap, subst, ◌∙◌, inr, AllPairs}
+use Rattle.std.proofs.Common.{take, length, Option, Some, None, Ok, Err, refl, sym, ap, subst, ◌∙◌, inr}
 use Rattle.std.proofs.Common.{append-nil, length-append}
 use Rattle.std.specs.Prelude.{nat_lt, if◌then◌else◌}
 use Rattle.std.proofs.lemmas.Bool.Decides.{nat_tests}
@@ -345,7 +345,7 @@ module _ (l : Lent) (good : IsGood l) (a : ℕ) (k x : Word) (count : ℕ)
         x_within store shown,
       )
 
-      pub unmet_good : AllPairs (λ one later. one ≢ later) names → IsGood formed
+      pub unmet_good : AreNames names → IsGood formed
       unmet_good = formed_good l more names named.are good
 
       module _ (attempt : Attempt) where
@@ -375,7 +375,7 @@ module _ (l : Lent) (good : IsGood l) (a : ℕ) (k x : Word) (count : ℕ)
             (Err b) formed new) why.1 acts)))
 
         -- ---- a refused step
-        module _ (distinct : AllPairs (λ one later. one ≢ later) names) (w_held : IsValue l.heap w)
+        module _ (are_names : AreNames names) (w_held : IsValue l.heap w)
             (plan : PutPlan) (plan_is : plan ≡ plan_at l.heap a w) (possible : plan ≢ Full)
             (refused : attempt.refused ≡ true) (some : 0 < words_of plan) (grants : Grants)
             (logs : KeepsLogsWithin 0 l.grants grants attempt.slot) where
@@ -383,7 +383,7 @@ module _ (l : Lent) (good : IsGood l) (a : ℕ) (k x : Word) (count : ℕ)
               → Lacks l more names named.are row attempt grants store
           lacks store shown =
               let there = (formed_left l more names named.are store shown).shown in
-              let well = unmet_good distinct in
+              let well = unmet_good are_names in
               record {
                 scene = left_scene formed well a w x count plan known w_held plan_is possible attempt
                     inside_formed store there;
@@ -408,7 +408,7 @@ module _ (l : Lent) (good : IsGood l) (a : ℕ) (k x : Word) (count : ℕ)
               (record l { grants = grants; names = after })) (sym it.0)
               (subst (λ (ns : List (List ℕ)). Acts asks row attempt (Err (Raises VmError)) l
               (record l { grants = grants; names = ns })) (sym it.1)
-              (refused_acts l more names named.are row attempt grants asks (unmet_good distinct) logs
+              (refused_acts l more names named.are row attempt grants asks (unmet_good are_names) logs
               (inr (it.2, it.3)) lacks))
           unmet_refused after place place_is (NotMade reason) it =
               let same : after ≡ l.names =

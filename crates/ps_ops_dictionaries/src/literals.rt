@@ -1,8 +1,8 @@
 //! The operator that makes a dictionary of what stands above a mark (PLRM2, 8 '>>').
 
-ghost use Rattle.std.specs.Prelude.{◌≡◌, ◌≢◌, ◌≤◌, ◌<◌, ◌+◌, ◌*◌, ◌/◌, ℕ, List, [], length, map};
+ghost use Rattle.std.specs.Prelude.{◌≡◌, ◌≤◌, ◌<◌, ◌+◌, ◌*◌, ◌/◌, ℕ, List, [], length, map};
 ghost use Rattle.std.specs.Prelude.{not, true, Some, None, false, reverse, take, drop, nat_le};
-ghost use Rattle.std.specs.Prelude.{if◌then◌else◌, OnOk, IfErr, AllPairs, ◌++◌, vec_capacity};
+ghost use Rattle.std.specs.Prelude.{if◌then◌else◌, OnOk, IfErr, ◌++◌, vec_capacity};
 ghost use Rattle.std.specs.List.{list_all, list_any};
 ghost use Rattle.std.specs.Str.{bytes_eq};
 ghost use Rattle.ps_language.specs.Access.{may_read_text};
@@ -19,7 +19,7 @@ ghost use Rattle.ps_mem.specs.Keeps.{Keeps};
 ghost use Rattle.ps_mem.specs.Meaning.{value_of};
 ghost use Rattle.ps_mem.specs.Index.{pairs_of_words};
 ghost use Rattle.ps_mem.specs.Shows.{AreValues, AreWithin, IsReady, IsSound, Shows, pair_of};
-ghost use Rattle.ps_names.specs.Names.{place_of};
+ghost use Rattle.ps_names.specs.Names.{place_of, AreNames};
 ghost use Rattle.ps_ops_operands.specs.Changes.{KeepsLogsWithin, values_in};
 ghost use Rattle.ps_ops_state.specs.Acts.{Acts};
 ghost use Rattle.ps_ops_state.specs.Lent.{lent_of, IsGood};
@@ -123,6 +123,7 @@ fn is_before<M: Memory>(
     requires short { (h : Heap) (met : List (List ℕ))
         → list_all fits_key (keys_among (values_in h met elements.now)) ≡ true }
     requires unmet { place_of text.now names.now ≡ None }
+    requires names { AreNames names.now }
     ensures heap { M.heap memory.new ≡ M.heap memory.old }
     ensures grants { M.grants memory.new ≡ M.grants memory.old }
     ensures answer { (s : Store) → Shows (M.heap memory.old) names.now s
@@ -147,6 +148,7 @@ fn is_new<M: Memory>(memory: &mut M, names: &Names, elements: &[Word], place: us
     requires place { 2 * place < length elements.now }
     requires short { (h : Heap) (met : List (List ℕ))
         → list_all fits_key (keys_among (values_in h met elements.now)) ≡ true }
+    requires names { AreNames names.now }
     ensures heap { M.heap memory.new ≡ M.heap memory.old }
     ensures grants { M.grants memory.new ≡ M.grants memory.old }
     ensures answer { (s : Store) → Shows (M.heap memory.old) names.now s
@@ -170,6 +172,7 @@ fn names_fit<M: Memory>(memory: &mut M, names: &Names, elements: &[Word]) -> boo
     requires few { length elements.now < operand_limit }
     requires short { (h : Heap) (met : List (List ℕ))
         → list_all fits_key (keys_among (values_in h met elements.now)) ≡ true }
+    requires names { AreNames names.now }
     ensures heap { M.heap memory.new ≡ M.heap memory.old }
     ensures grants { M.grants memory.new ≡ M.grants memory.old }
     ensures answer { (s : Store) → Shows (M.heap memory.old) names.now s
@@ -202,6 +205,7 @@ fn test_elements<M: Memory>(
     requires sound { IsSound (M.heap memory.old) }
     requires held { AreValues (M.heap memory.old) elements.now }
     requires few { length elements.now < operand_limit }
+    requires names { AreNames names.now }
     ensures heap { M.heap memory.new ≡ M.heap memory.old }
     ensures grants { M.grants memory.new ≡ M.grants memory.old }
     ensures even { OnOk result (2 * (length elements.now / 2) ≡ length elements.now) }
@@ -252,11 +256,11 @@ fn form_names<M: Memory>(memory: &mut M, names: &mut Names, elements: &[Word]) -
     requires few { length elements.now < operand_limit }
     requires short { (h : Heap) (met : List (List ℕ))
         → list_all fits_key (keys_among (values_in h met elements.now)) ≡ true }
-    requires distinct { AllPairs (λ one later. one ≢ later) names.old }
+    requires names { AreNames names.old }
     ensures heap { M.heap memory.new ≡ M.heap memory.old }
     ensures grants { M.grants memory.new ≡ M.grants memory.old }
     ensures more { (more : List (List ℕ)) × (names.new ≡ names.old ++ more) }
-    ensures distinct { AllPairs (λ one later. one ≢ later) names.new }
+    ensures names { AreNames names.new }
     ensures met { OnOk result ((s : Store) → Shows (M.heap memory.old) names.old s
         → AreWithin (M.heap memory.old) names.old s elements.now
         → met_among names.old s (values_in (M.heap memory.old) names.old elements.now)
@@ -278,6 +282,7 @@ fn gather_pairs<M: Memory>(memory: &mut M, names: &Names, elements: &[Word], wor
     requires few { length elements.now < operand_limit }
     requires empty { words.old.items ≡ [] }
     requires room { length elements.now ≤ vec_capacity words.old }
+    requires names { AreNames names.now }
     ensures heap { M.heap memory.new ≡ M.heap memory.old }
     ensures grants { M.grants memory.new ≡ M.grants memory.old }
     ensures count { length words.new.items ≡ length elements.now }
@@ -317,7 +322,7 @@ fn make_pairs<M: Memory>(
     requires within { depth < length operands.old }
     requires few { depth < operand_limit }
     requires even { 2 * (depth / 2) ≡ depth }
-    requires distinct { AllPairs (λ one later. one ≢ later) names.now }
+    requires names { AreNames names.now }
     ensures empty { words.new.items ≡ [] }
     ensures room { vec_capacity words.old ≤ vec_capacity words.new }
     ensures logs { (slot : ℕ)

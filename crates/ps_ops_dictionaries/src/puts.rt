@@ -339,7 +339,6 @@ pub(crate) fn put_entry<M: Memory>(
         (lent_of M.heap M.grants context.new runtime.new) }
     ensures frames { context.new.frames ≡ context.old.frames }
 {
-    let _count = runtime.shared.names.len();
     match string_of(entry.key) {
         None => put_word(context, runtime, attempt, entry),
         Some(_) => {

@@ -1,6 +1,6 @@
 -- What is lent once a name is formed, and without it again.
-use Rattle.std.proofs.Common.{◌≡◌, ◌≢◌, ℕ, zero, suc, ◌≤◌, ◌++◌, arith, Bool, true, false, List, [], length, take, Ok}
-use Rattle.std.proofs.Common.{Err, refl, sym, ap, subst, ◌∙◌, append-nil, inl, inr, AllPairs, length-append}
+use Rattle.std.proofs.Common.{◌≡◌, ℕ, zero, suc, ◌≤◌, ◌++◌, arith, Bool, true, false, List, [], length, take, Ok}
+use Rattle.std.proofs.Common.{Err, refl, sym, ap, subst, ◌∙◌, append-nil, inl, inr, length-append}
 use Rattle.std.proofs.Common.{append_assoc, ◌-◌}
 use Rattle.std.proofs.lemmas.List.{take-append-le, take_all, length-take}
 use Rattle.ps_language.specs.declared.errors.ErrorName.TheVariants.{VmError}
@@ -10,6 +10,7 @@ use Rattle.ps_language.specs.Objects.{lacks_room}
 use Rattle.ps_language.specs.Rows.{Row}
 use Rattle.ps_language.specs.Worlds.{first_names}
 use Rattle.ps_mem.specs.Heap.{Grants}
+use Rattle.ps_names.specs.Names.{AreNames}
 use Rattle.ps_ops_operands.specs.declared.failure.NotMade.{NotMade as Reason}
 use Rattle.ps_ops_operands.specs.declared.failure.NotMade.TheVariants.{LogFull, LogClosed, NeedSpace, Memory}
 use Rattle.ps_ops_operands.specs.Changes.{KeepsLogsWithin}
@@ -70,14 +71,14 @@ module _ (l : Lent) (more names : List (List ℕ)) (are : names ≡ l.names ++ m
   abbrev formed : Lent
   formed = record l { names = names }
 
-  pub formed_good : IsGood l → AllPairs (λ one later. one ≢ later) names → IsGood formed
-  formed_good good distinct = record {
+  pub formed_good : IsGood l → AreNames names → IsGood formed
+  formed_good good are_names = record {
     sound = good.sound;
     operands = good.operands;
     dictionaries = good.dictionaries;
     frames = good.frames;
     error_stands = good.error_stands;
-    names = distinct;
+    names = are_names;
     first = subst (λ (ns : List (List ℕ)). take (length first_names) ns ≡ first_names) (sym are)
         (begins_more first_names l.names more good.first);
     empty = good.empty;

@@ -1,5 +1,5 @@
 -- What is lent to an operator, as words, and the scene that it shows (PLRM2, 3.4).
-use Rattle.std.specs.Prelude.{◌≡◌, ◌≢◌, ℕ, ◌<◌, ◌^◌, List, [], length, AllPairs, vec_capacity}
+use Rattle.std.specs.Prelude.{◌≡◌, ℕ, ◌<◌, ◌^◌, List, [], length, vec_capacity}
 use Rattle.ps_language.specs.declared.kinds.Kind.TheVariants.{Dictionary}
 use Rattle.ps_language.specs.Value.{Store}
 use Rattle.ps_language.specs.Effect.{Around, Scene}
@@ -7,6 +7,7 @@ use Rattle.ps_word.specs.declared.words.Word.{Word}
 use Rattle.ps_mem.specs.Heap.{Heap, Grants, birth_at}
 use Rattle.ps_mem.specs.References.{StandsAs}
 use Rattle.ps_mem.specs.Shows.{AreValues, IsSound, AreWithin, Shows}
+use Rattle.ps_names.specs.Names.{AreNames}
 use Rattle.ps_ops_operands.specs.Changes.{values_in}
 use Rattle.ps_ops_operands.specs.FirstNames.{BeginWithFirst}
 use Rattle.ps_ops_control.specs.declared.frames.Frame.{Frame}
@@ -102,15 +103,15 @@ pub record IsErrorDictionary (h : Heap) (address : ℕ) : Type 0 where
   pub stands : StandsAs h Dictionary address 4
   pub below : address < 2 ^ 24
 
--- What is held refers to what stands in a sound memory, $error stands, no name is met twice, the
--- names begin with the first ones, among which those of $error are, and nothing is left of what an
--- operator read
+-- What is held refers to what stands in a sound memory, $error stands, the names are such as may be
+-- met and begin with the first ones, among which those of $error are, and nothing is left of what
+-- an operator read
 pub record IsGood (l : Lent) : Type 0 where
   pub sound : IsSound l.heap
   pub operands : AreValues l.heap l.operands
   pub dictionaries : AreValues l.heap l.dictionaries
   pub frames : AreFrames l.heap (length l.program) l.frames
   pub error_stands : IsErrorDictionary l.heap l.error_dictionary
-  pub names : AllPairs (λ one later. one ≢ later) l.names
+  pub names : AreNames l.names
   pub first : BeginWithFirst l.names
   pub empty : IsEmpty l.scratch

@@ -1,5 +1,5 @@
 -- What cvn leaves or raises.
-use Rattle.std.proofs.Common.{◌≡◌, ◌≢◌, ◌++◌, ◌&&◌, ℕ, Bool, true, false, List, ◌∷◌, drop, length, Some, None, Ok, refl, sym, ap, subst, ◌∙◌, AllPairs}
+use Rattle.std.proofs.Common.{◌≡◌, ◌++◌, ◌&&◌, ℕ, Bool, true, false, List, ◌∷◌, drop, length, Some, None, Ok, refl, sym, ap, subst, ◌∙◌}
 use Rattle.ps_language.specs.declared.errors.ErrorName.TheVariants.{InvalidAccess, LimitCheck, TypeCheck}
 use Rattle.ps_language.specs.Value.{Part as PartValue, name_value, Value, Store}
 use Rattle.ps_language.specs.Access.{is_readable, part_bytes}
@@ -122,7 +122,7 @@ module _ (l : Lent) (x : Word) (top : Some x ≡ first_of l.operands) where
       module _ (good : IsGood l) (attempt : Attempt) (may : is_readable part.access ≡ true)
           (key : Key) (are : IsKeyOf l.heap l.names x key) (done : IsForming l.names key (Ok tt))
           (same : names ≡ names_with l.names key)
-          (distinct : AllPairs (λ one later. one ≢ later) names) (w : Word)
+          (are_new : AreNames names) (w : Word)
           (is : IsFormedWord key (length l.names) w) (executable : Bool)
           (attribute : executable ≡ executable_in x.0) (name : Word)
           (name_is : value_in name.0 ≡ record (value_in w.0) { executable = executable })
@@ -189,7 +189,7 @@ module _ (l : Lent) (x : Word) (top : Some x ≡ first_of l.operands) where
               formed_acts l more names names_are (naming_row cvn_row) other nothing_asked
               nothing_asked attempt effects (λ store shown. refl) _
               (stacked_acts other (record l { names = names }) operands l.dictionaries nothing_asked
-              attempt (formed_good l more names names_are good distinct) (
+              attempt (formed_good l more names names_are good are_new) (
                 held,
                 rest_held (IsValue l.heap) l.operands good.operands 1,
               ) good.dictionaries λ store shown. record {

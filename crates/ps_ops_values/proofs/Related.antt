@@ -147,7 +147,7 @@ module _ {A : Type 0} (of : Store → (a b : Value) → Outcome A) (test : A →
         (value_of (birth_at l.heap) l.names left) (values_in l.heap l.names (drop 2 l.operands))
         ∙ ap (λ (outcome : Outcome A). and_then outcome
         (λ found. leaves (boolean (test found) ∷ values_in l.heap l.names (drop 2 l.operands))))
-        (finds.agrees store shown.shows good.names within inside))
+        (finds.agrees store shown.shows good.names.different within inside))
 
     pub failed_acts : (error : ErrorName) → Finds of (Err error) l.heap l.names left right
         → Acts nothing_asked (reading_row row) attempt (Err (Raises error)) l l

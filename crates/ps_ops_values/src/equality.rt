@@ -1,7 +1,7 @@
 //! Equality of two values (PLRM2, 8 'eq'): of a string by its characters, as a name has them, and
 //! of everything else as keys are.
 
-ghost use Rattle.std.specs.Prelude.{◌≡◌, ◌≢◌, ℕ, List, None, Ok, true, false, AllPairs, IfOk};
+ghost use Rattle.std.specs.Prelude.{◌≡◌, ℕ, List, None, Ok, true, false, IfOk};
 ghost use Rattle.std.specs.Prelude.{IfErr, is_ok};
 ghost use Rattle.ps_language.specs.Access.{may_read_text};
 ghost use Rattle.ps_language.specs.Equality as language;
@@ -12,6 +12,7 @@ ghost use Rattle.ps_word.specs.Readers as readers;
 ghost use Rattle.ps_mem.specs.Heap.{Heap, birth_at};
 ghost use Rattle.ps_mem.specs.Meaning.{value_of};
 ghost use Rattle.ps_mem.specs.Shows.{IsSound, IsValue, IsWithin, Shows};
+ghost use Rattle.ps_names.specs.Names.{AreNames};
 ghost use Rattle.ps_ops_operands.specs.Kept.{AreFrom};
 ghost use Rattle.ps_ops_operands.specs.Changes.{Observes};
 ghost use Rattle.ps_ops_state.specs.Acts.{Acts, nothing_asked};
@@ -58,10 +59,10 @@ fn is_its_name<M: Memory>(memory: &mut M, names: &Names, plain: Word, string: Wo
     requires plain { IsValue (M.heap memory.old) plain }
     requires string { IsValue (M.heap memory.old) string }
     requires other { readers.as_text (content_in plain.0) ≡ None }
+    requires names { AreNames names.now }
     ensures heap { M.heap memory.new ≡ M.heap memory.old }
     ensures grants { M.grants memory.new ≡ M.grants memory.old }
     ensures value { (s : Store) → Shows (M.heap memory.old) names.now s
-        → AllPairs (λ one later. one ≢ later) names.now
         → IsWithin (birth_at (M.heap memory.old)) names.now s plain
         → IsWithin (birth_at (M.heap memory.old)) names.now s string
         → result ≡ language.are_equal s
@@ -85,6 +86,7 @@ fn are_equal<M: Memory>(
     requires sound { IsSound (M.heap memory.old) }
     requires left { IsValue (M.heap memory.old) left }
     requires right { IsValue (M.heap memory.old) right }
+    requires names { AreNames names.now }
     ensures heap { M.heap memory.new ≡ M.heap memory.old }
     ensures grants { M.grants memory.new ≡ M.grants memory.old }
     ensures found { Finds relations.equality result (M.heap memory.old) names.now left right }

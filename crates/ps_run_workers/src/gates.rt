@@ -5,7 +5,7 @@ ghost use Rattle.std.specs.Prelude.{◌≡◌};
 
 use ps_core_laws::collected::Counts;
 use ps_core_laws::sides::{Collects, LoggedMemory, Works};
-use ps_core_laws::{Closing, Flip};
+use ps_core_laws::{Closing, Unready};
 use ps_language::kinds::Kind;
 use ps_mem::marks::Mark;
 use ps_mem::{FieldAt, Memory, NeedFault, Permit, Slot};
@@ -124,6 +124,8 @@ impl<M: LoggedMemory + Drop, G: Gate> LoggedMemory for Gated<'_, M, G> {
     }
 
     ghost bounded = { λ g. M.bounded g.memory };
+
+    ghost addressed = { λ g. M.addressed g.memory };
 }
 
 /// The collector of such a memory, with its gate.
@@ -172,7 +174,11 @@ impl<'g, M: LoggedMemory + Drop, G: Gate, C: Collects<M> + Drop> Collects<Gated<
         self.collector.hand_over(&mut memory.memory, roots);
     }
 
-    fn try_flip(&mut self, memory: &mut Gated<'g, M, G>, roots: &mut [Word]) -> Flip {
+    fn try_flip(
+        &mut self,
+        memory: &mut Gated<'g, M, G>,
+        roots: &mut [Word],
+    ) -> Result<(), Unready> {
         self.collector.try_flip(&mut memory.memory, roots)
     }
 

@@ -11,7 +11,7 @@ use crate::origins::Origin;
 use crate::waits::Wanting;
 use ps_core_laws::collected::Counts;
 use ps_core_laws::sides::{Collects, LoggedMemory, Works};
-use ps_core_laws::{Closing, Flip};
+use ps_core_laws::{Closing, Unready};
 use ps_ctx::deeds::Deeds;
 use ps_mem::Slot;
 use ps_ops_operands::failure::NotMade;
@@ -250,14 +250,14 @@ impl<
                         .vault
                         .flip_or_hand_over(&mut lent.collector, &mut lent.roots)
                     {
-                        Flip::Done => self.rest(),
-                        Flip::NotReady(_) => self.waits.enter(Cycle::Stopped),
+                        Ok(()) => self.rest(),
+                        Err(_) => self.waits.enter(Cycle::Stopped),
                     }
                 }
             }
             Cycle::Stopped => {
                 if self.may_flip(1) {
-                    self.vault.flip_or_end(&mut lent.collector, &mut lent.roots);
+                    let _ = self.vault.flip_or_end(&mut lent.collector, &mut lent.roots);
                     self.rest();
                 }
             }

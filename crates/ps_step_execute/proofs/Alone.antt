@@ -154,7 +154,7 @@ module _ (asks : Asks) (heap : Heap) (dictionaries : List Word) (word : Word) wh
         (seen at.names s held.shown.shows held.shown.dictionaries))
         (unmade _ _) (named _ _)
         (finds_value at word result (IsShownWith (word ∷ word ∷ []) [])
-        (λ s held. looks at.names s _ held.shown.shows good.names (refl, held.words_within.0)) pair
+        (λ s held. looks at.names s _ held.shown.shows good.names.different (refl, held.words_within.0)) pair
         is s held)
 
   module _ (value : Word) (treats : TreatsAs asks heap dictionaries word value) where

@@ -139,7 +139,7 @@ module _ (l : Lent) (good : IsGood l) (over : Part) (at depth : ℕ) (below : Li
   there s shown = record {
     shows = shown.shows;
     dictionaries_within = shown.dictionaries;
-    apart = good.names;
+    apart = good.names.different;
   }
 
   frames_count : (s : Store) → length (scene_of l s).frames ≡ length l.frames

@@ -152,7 +152,7 @@ module _ (l : Lent) (good : IsGood l) (over : Part) (at depth : ℕ)
               (shows l.names s shown.shows (all.within l.names s (record {
                 shows = shown.shows;
                 dictionaries_within = shown.dictionaries;
-                apart = good.names;
+                apart = good.names.different;
               })));
           lasts = part_last l.heap over
               (bind_held l good over at depth (drop 1 l.frames) top).0 l.names s shown.shows at _;

@@ -1,5 +1,5 @@
 -- What an operator leaves that forms the name of its key, and changes no object.
-use Rattle.std.proofs.Common.{◌≡◌, ◌≢◌, ℕ, ◌+◌, ◌≤◌, ◌<◌, ◌++◌, arith, Bool, true, false, List, [], ◌∷◌, length, Some, None, Ok, Err, refl, sym, ap, subst, ◌∙◌, ◌⊎◌, inl, inr, AllPairs, length-append, append-nil}
+use Rattle.std.proofs.Common.{◌≡◌, ℕ, ◌+◌, ◌≤◌, ◌<◌, ◌++◌, arith, Bool, true, false, List, [], ◌∷◌, length, Some, None, Ok, Err, refl, sym, ap, subst, ◌∙◌, ◌⊎◌, inl, inr, length-append, append-nil}
 use Rattle.std.specs.Prelude.{nat_le}
 use Rattle.std.proofs.lemmas.Bool.Decides.{nat_tests}
 use Rattle.ps_language.specs.declared.errors.ErrorName.{ErrorName}
@@ -16,7 +16,7 @@ use Rattle.ps_mem.specs.Heap.{birth_at}
 use Rattle.ps_mem.specs.Meaning.{value_of}
 use Rattle.ps_mem.specs.Shows.{AreValues, IsWithin, AreWithin}
 use Rattle.ps_mem.proofs.NameLemmas.{values_of-named}
-use Rattle.ps_names.specs.Names.{place_of}
+use Rattle.ps_names.specs.Names.{place_of, AreNames}
 use Rattle.ps_names.proofs.Places.{meet_known, meet_new}
 use Rattle.ps_ops_operands.specs.declared.failure.NotMade.{NotMade as Reason}
 use Rattle.ps_ops_operands.specs.declared.failure.NotMade.TheVariants.{Memory}
@@ -200,7 +200,7 @@ module _ (row : Row) (l : Lent) (good : IsGood l) (attempt : Attempt) (k : Word)
 
   module _ (done : IsForming l.names key (Ok tt)) (names : List (List ℕ))
       (same : names ≡ names_with l.names key)
-      (distinct : AllPairs (λ one later. one ≢ later) names)
+      (are_names : AreNames names)
       (held : AreValues l.heap operands)
       (stay : (names : List (List ℕ)) (store : Store) → AreWithin l.heap names store l.operands
       → AreWithin l.heap names store operands)
@@ -237,7 +237,7 @@ module _ (row : Row) (l : Lent) (good : IsGood l) (attempt : Attempt) (k : Word)
         formed_acts l more names names_are row other nothing_asked nothing_asked attempt effects
         (λ store shown. refl) _
         (stacked_acts other (record l { names = names }) operands l.dictionaries nothing_asked attempt
-        (formed_good l more names names_are good distinct) held good.dictionaries
+        (formed_good l more names names_are good are_names) held good.dictionaries
         λ store shown. record {
           is = refl;
           operands_within = stay names store shown.operands;

@@ -1,5 +1,5 @@
 -- Keys by their words: strings become names, and nothing else changes.
-use Rattle.std.proofs.Common.{◌≡◌, ◌≢◌, ℕ, zero, suc, ◌+◌, ◌≤◌, ◌<◌, ◌++◌, ◌||◌, arith, Bool, true, false, List, [], ◌∷◌, map, length, slice_get, Option, Some, None, refl, sym, ap, subst, ◌∙◌, inl, inr, bytes_eq, is_some, Ok, AllPairs, drop, length-drop, ◌-◌}
+use Rattle.std.proofs.Common.{◌≡◌, ℕ, zero, suc, ◌+◌, ◌≤◌, ◌<◌, ◌++◌, ◌||◌, arith, Bool, true, false, List, [], ◌∷◌, map, length, slice_get, Option, Some, None, refl, sym, ap, subst, ◌∙◌, inl, inr, bytes_eq, is_some, Ok, drop, length-drop, ◌-◌}
 use Rattle.std.specs.Prelude.{nat_le, slice_range}
 use Rattle.std.specs.List.{position_or_len, list_any, AllByRecursion}
 use Rattle.std.proofs.lemmas.List.{length-take}
@@ -195,7 +195,7 @@ pub forms_met : (names : List (List ℕ)) (key : Key) (w : Word) → key ≡ Met
     → Forms names names key (Ok tt)
 forms_met names key w is are = record {
   did = rw is tt;
-  made = λ _. (rw is refl, are.different);
+  made = λ _. (rw is refl, are);
   unmade = λ break clash. refl;
 }
 
@@ -212,8 +212,7 @@ module _ (names : List (List ℕ)) (key : Key) (text : ArrayVec ℕ) (is : key �
         did = rw is room;
         made = λ _. (
           rw is same,
-          subst (λ (ns : List (List ℕ)). AllPairs (λ one later. one ≢ later) ns) (sym same)
-              (names_added text.items names unmet.unmet are unmet.short room).different,
+          subst AreNames (sym same) (names_added text.items names unmet.unmet are unmet.short room),
         );
         unmade = λ break clash. cc;
       }

@@ -1,5 +1,6 @@
 -- What a word is as a key under the names met, and what forming its name leaves.
-use Rattle.std.specs.Prelude.{◌≡◌, ◌≢◌, ◌≤◌, ◌<◌, ◌+◌, ◌++◌, ◌⊎◌, ℕ, List, [], ◌∷◌, length, Option, Some, None, true, false, AllPairs, Result, Ok, Err}
+use Rattle.std.specs.Prelude.{◌≡◌, ◌≤◌, ◌<◌, ◌+◌, ◌++◌, ◌⊎◌, ℕ, List, [], ◌∷◌, length, Option, Some}
+use Rattle.std.specs.Prelude.{None, true, false, Result, Ok, Err}
 use Rattle.ps_language.specs.declared.errors.ErrorName.TheVariants.{LimitCheck}
 use Rattle.ps_language.specs.Access.{bytes, part_bytes}
 use Rattle.ps_language.specs.Limits.{name_limit, names_limit}
@@ -14,7 +15,7 @@ use Rattle.ps_word.specs.Format.{value_in, IsWord}
 use Rattle.ps_mem.specs.Heap.{Heap, birth_at}
 use Rattle.ps_mem.specs.Meaning.{value_of, part_of}
 use Rattle.ps_mem.specs.Shows.{IsValue, IsWithin, Shows}
-use Rattle.ps_names.specs.Names.{place_of}
+use Rattle.ps_names.specs.Names.{place_of, AreNames}
 use Rattle.ps_ops_operands.specs.declared.failure.NotMade.TheVariants.{Memory}
 use Rattle.ps_ops_state.specs.declared.breaks.Break.{Break}
 use Rattle.ps_ops_state.specs.declared.breaks.Break.TheVariants.{Raises, NotMade}
@@ -124,5 +125,5 @@ IsForming names key result = ⊥
 
 pub record Forms (old new : List (List ℕ)) (key : Key) (result : Result Unit Break) : Type 0 where
   pub did : IsForming old key result
-  pub made : result ≡ Ok tt → (new ≡ names_with old key) × AllPairs (λ one later. one ≢ later) new
+  pub made : result ≡ Ok tt → (new ≡ names_with old key) × AreNames new
   pub unmade : (break : Break) → result ≡ Err break → new ≡ old

@@ -8,6 +8,7 @@ ghost use Rattle.ps_mem.specs.Heap.{Heap, birth_at};
 ghost use Rattle.ps_mem.specs.Meaning.{value_of};
 ghost use Rattle.ps_mem.specs.References.{StandsAs, words_for};
 ghost use Rattle.ps_mem.specs.Shows.{IsSound, IsValue};
+ghost use Rattle.ps_names.specs.Names.{AreNames};
 ghost use Rattle.ps_word.specs.Format.{value_in, IsWord};
 ghost use Rattle.ps_step_lookup.specs.Keys.{IsKeyOf, IsFormable, IsKeyWord, IsTextKey, Forms, word_in};
 
@@ -74,11 +75,11 @@ pub fn is_readable_key(word: Word) -> bool
 pub fn read_key<M: Memory>(memory: &mut M, names: &Names, word: Word) -> Key
     requires sound { IsSound (M.heap memory.old) }
     requires held { IsValue (M.heap memory.old) word }
+    requires names { AreNames names.now }
     ensures heap { M.heap memory.new ≡ M.heap memory.old }
     ensures grants { M.grants memory.new ≡ M.grants memory.old }
     ensures key { IsKeyOf (M.heap memory.old) names.now word result }
 {
-    let _count = names.len();
     match string_of(word) {
         Some(part) => text_key(memory, names, part),
         None => Key::Met(word),
@@ -125,10 +126,10 @@ pub fn name_word(number: usize) -> Word
 /// Raises `limitcheck` where it is too long, or no more names may be met. Not made, by `Memory`,
 /// where a growth is refused. No name is met then.
 pub fn form_key(names: &mut Names, key: &Key) -> Result<(), Break>
-    requires { IsFormable names.old key.now }
+    requires formable { IsFormable names.old key.now }
+    requires names { AreNames names.old }
     ensures { Forms names.old names.new key.now result }
 {
-    let _count = names.len();
     match key {
         Key::Met(_) => Ok(()),
         Key::Unmet(text) => match names.intern(text.as_slice()) {

@@ -94,7 +94,7 @@ module _ (error : ErrorName) (command : Word) (attempt : Attempt) (l : Lent) (go
   noted_turn : NotesTo (Ok tt) → (s : Store) (held : IsShownWith (command ∷ []) [] l s)
       → IsTurned attempt.refused (error_turn error command l s) (Breaks Stop) s l noted
   noted_turn notes s held =
-      let note = notes.did.meets l.names s good.first good.names held.shown.shows
+      let note = notes.did.meets l.names s good.first good.names.different held.shown.shows
       held.words_within.0 in
       let value : Value = value_of (birth_at l.heap) l.names command in
       let next = left_over l good heap grants notes.keeps s _ held.shown note.0 note.1 in

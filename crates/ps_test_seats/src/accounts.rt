@@ -3,7 +3,7 @@
 //! answer. Where a number is out of range nothing is done.
 
 use crate::arrays::{Item, Store};
-use ps_core_laws::{Flip, Unready};
+use ps_core_laws::Unready;
 use ps_gc::Drained;
 use ps_record::{Record, SLOTS};
 use std::alloc::{AllocError, Global};
@@ -195,20 +195,20 @@ impl Account {
     }
 
     /// What a try to flip comes to: the first reason that stands, if there is one.
-    pub fn flip(&self) -> Flip {
+    pub fn flip(&self) -> Result<(), Unready> {
         if self.logs.iter().any(|log| !log.is_closed) {
-            return Flip::NotReady(Unready::LogOpen);
+            return Err(Unready::LogOpen);
         }
         if self.logs.iter().any(|log| log.taken < log.records.len()) {
-            return Flip::NotReady(Unready::Undrained);
+            return Err(Unready::Undrained);
         }
         if self.unfilled().is_some() {
-            return Flip::NotReady(Unready::Unscanned);
+            return Err(Unready::Unscanned);
         }
         if self.arrays.iter().any(|array| !array.has_replica) {
-            return Flip::NotReady(Unready::RootNotCopied);
+            return Err(Unready::RootNotCopied);
         }
-        Flip::Done
+        Ok(())
     }
 
     /// The next call that finds something: of the letters, `r` for a root, `s` for a field and `d`

@@ -5,7 +5,7 @@ ghost use Rattle.std.specs.Prelude.{◌≡◌};
 
 use crate::arrays::Arrays;
 use crate::sides::{SPACE, Seats};
-use ps_core_laws::Flip;
+use ps_core_laws::Unready;
 use ps_core_laws::sides::{Collects, LoggedMemory, Works};
 use ps_gc::{Copier, MutatorSeat, Naming, named_seats};
 use std::alloc::{AllocError, Global};
@@ -44,7 +44,7 @@ impl<J: Naming> Lent<J> {
     }
 
     /// Tries to flip, with the words of all arrays as roots.
-    pub fn try_flip(&mut self) -> Option<Flip> {
+    pub fn try_flip(&mut self) -> Option<Result<(), Unready>> {
         let arrays = &mut self.arrays;
         if !arrays.memory.is_open() {
             return None;

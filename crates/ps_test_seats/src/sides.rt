@@ -13,7 +13,7 @@ ghost use Rattle.ps_gc.specs.Known.{are_known};
 ghost use Rattle.ps_test_seats.specs.declared.sides.TheConstants.{SPACE};
 
 use crate::arrays::Arrays;
-use ps_core_laws::Flip;
+use ps_core_laws::Unready;
 use ps_core_laws::sides::LoggedMemory;
 use ps_gc::{Collector, Drained, MutatorSeat, Naming};
 use ps_record::slots::Slot;
@@ -136,7 +136,7 @@ impl<J: Naming> Sides<J> {
     }
 
     /// Tries to flip, with the words of all arrays as roots.
-    pub fn try_flip(&mut self) -> Option<Flip> {
+    pub fn try_flip(&mut self) -> Option<Result<(), Unready>> {
         let arrays = &mut self.arrays;
         if !arrays.memory.is_open() {
             return None;
@@ -144,7 +144,7 @@ impl<J: Naming> Sides<J> {
         let flip = self
             .collector
             .try_flip(&mut arrays.memory.vm, arrays.words.as_mut_slice());
-        if let Flip::Done = flip {
+        if flip.is_ok() {
             self.handed.clear();
             self.in_cycle = self.collector.begin_cycle();
         }

@@ -8,7 +8,7 @@ use crate::accounts::{Account, FIELDS, Work};
 use crate::arrays::{Arrays, Item, Store, array_at, item_of};
 use crate::sides::{Seats, Sides};
 use anyhow::{Result, ensure};
-use ps_core_laws::{Closing, Flip};
+use ps_core_laws::{Closing, Unready};
 use ps_gc::Naming;
 use ps_mem::plain::PlainMemory;
 use ps_mem::{Memory, Permit};
@@ -183,7 +183,7 @@ impl<J: Naming> Attempt<J> {
             self.sides.try_flip() == Some(wanted),
             "flip is not {wanted:?}"
         );
-        Ok(wanted == Flip::Done)
+        Ok(wanted.is_ok())
     }
 
     /// Tries to flip behind each call of the collector, until it is done or nothing is left to do;

@@ -1,10 +1,10 @@
 -- When a log takes no close, and what a try to flip does.
-use Rattle.std.specs.Prelude.{◌≡◌, ◌≤◌, ℕ, true, false, List, length}
+use Rattle.std.specs.Prelude.{◌≡◌, ◌≤◌, ℕ, true, false, List, Result, is_ok, length}
 use Rattle.ps_word.specs.declared.words.Word.{Word}
 use Rattle.ps_mem.specs.Heap.{Heap, Grants}
 use Rattle.ps_core_machine.specs.declared.events.Event.{Event}
-use Rattle.ps_core_laws.specs.declared.tries.Flip.{Flip}
-use Rattle.ps_core_laws.specs.Tries.{IsFlip, is_done, sides_of}
+use Rattle.ps_core_laws.specs.declared.tries.Unready.{Unready}
+use Rattle.ps_core_laws.specs.Tries.{IsFlip, sides_of}
 use Rattle.ps_gc_roots.specs.declared.reading.TheConstants.{ROOT_LIMIT}
 use Rattle.ps_vault.specs.Stories.{Story, IsMemoryOf}
 
@@ -19,8 +19,8 @@ pub record IsFull {M : Type 0} (heap : M → Heap) (grants : M → Grants) (stor
 -- a try to flip with some roots, no more than all contexts have, over a memory with the numbers of
 -- the story: it left this memory, and the collector like this. Where it flipped, these stayed so
 pub record IsTry {M C : Type 0} (heap : M → Heap) (grants : M → Grants) (vm_did : M → List Event)
-    (gc_did : C → M → List Event) (answers : C → M → List Word → Flip → Type 0) (came : Flip)
-    (old new : Story) (before after : C) : Type 0 where
+    (gc_did : C → M → List Event) (answers : C → M → List Word → Result Unit Unready → Type 0)
+    (came : Result Unit Unready) (old new : Story) (before after : C) : Type 0 where
   pub memory : M
   pub is_of : IsMemoryOf old (heap memory) (grants memory)
   pub left : M
@@ -31,5 +31,5 @@ pub record IsTry {M C : Type 0} (heap : M → Heap) (grants : M → Grants) (vm_
   pub answer : answers before memory roots came
   pub flips : IsFlip came (sides_of heap grants vm_did gc_did memory before)
       (sides_of heap grants vm_did gc_did left tried) roots renamed
-  pub left_is : is_done came ≡ true → IsMemoryOf new (heap left) (grants left)
-  pub collector_is : is_done came ≡ true → after ≡ tried
+  pub left_is : is_ok came ≡ true → IsMemoryOf new (heap left) (grants left)
+  pub collector_is : is_ok came ≡ true → after ≡ tried

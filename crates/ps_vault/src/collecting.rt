@@ -1,16 +1,15 @@
 //! The cycles of a vault's collector, which it is lent for the calls that move objects or hand roots
 //! over. World and schedule stay.
 
-ghost use Rattle.std.specs.Prelude.{◌≡◌, ◌<◌, true, false, slice_index_or};
+ghost use Rattle.std.specs.Prelude.{◌≡◌, ◌<◌, true, false, is_ok, slice_index_or};
 ghost use Rattle.ps_core_laws.specs.Collected.{may_open, one_more_if, stopped};
-ghost use Rattle.ps_core_laws.specs.Tries.{is_done};
 ghost use Rattle.ps_vault.specs.Cycles.{IsFull, IsTry};
 ghost use Rattle.ps_vault.specs.Stories.{UsesOnlyLive, with_closed, with_cycle, without_cycle};
 
 use crate::vaults::Vault;
 use ps_core_laws::collected::{CollectedMemory, Counts};
 use ps_core_laws::sides::{Collects, LoggedMemory};
-use ps_core_laws::{Closing, Flip};
+use ps_core_laws::{Closing, Unready};
 use ps_ctx::deeds::Deeds;
 use ps_gc_roots::{
     RootList, end_cycle, end_read, hand_over, hand_read, open_cycle, stop_all, try_flip,
@@ -59,33 +58,37 @@ impl<M: LoggedMemory + Drop, S: Interpret + Drop, D: Deeds + Drop> Vault<'_, M, 
     }
 
     /// Ends the open cycle by the flip, where all is ready for it: the objects move, and the roots
-    /// of all contexts are renamed. Else those that were read for it are handed over to the
-    /// collector, and nothing else has changed.
+    /// of all contexts are renamed. `Unready` says why that can't come yet: those that were read
+    /// for it are handed over to the collector, and nothing else has changed.
     pub fn flip_or_hand_over<C: Collects<M>>(
         &mut self,
         collector: &mut C,
         roots: &mut RootList,
-    ) -> Flip
+    ) -> Result<(), Unready>
         requires open { self.old.cycle_open ≡ true }
         ensures tried { IsTry M.heap M.grants M.did C.did C.answers result self.old self.new
             collector.old collector.new }
-        ensures done { is_done result ≡ true
+        ensures done { is_ok result ≡ true
             → self.new ≡ without_cycle (one_more_if true) self.new.used self.old }
-        ensures same { is_done result ≡ false → self.new ≡ self.old }
+        ensures same { is_ok result ≡ false → self.new ≡ self.old }
     {
         let contexts = &mut self.world.contexts;
         match try_flip(&mut self.runtime, collector, contexts, roots) {
-            Flip::Done => Flip::Done,
-            Flip::NotReady(why) => {
+            Ok(()) => Ok(()),
+            Err(why) => {
                 hand_read(&mut self.runtime, collector, contexts, roots);
-                Flip::NotReady(why)
+                Err(why)
             }
         }
     }
 
     /// Ends the open cycle, by the flip where all is ready for it; else, by the roots that were read
-    /// for it, whatever is left to do.
-    pub fn flip_or_end<C: Collects<M>>(&mut self, collector: &mut C, roots: &mut RootList) -> Flip
+    /// for it, whatever is left to do. `Unready` says why it wasn't the flip.
+    pub fn flip_or_end<C: Collects<M>>(
+        &mut self,
+        collector: &mut C,
+        roots: &mut RootList,
+    ) -> Result<(), Unready>
         requires open { self.old.cycle_open ≡ true }
         ensures tried { IsTry M.heap M.grants M.did C.did C.answers result self.old self.new
             collector.old collector.new }
@@ -93,10 +96,10 @@ impl<M: LoggedMemory + Drop, S: Interpret + Drop, D: Deeds + Drop> Vault<'_, M, 
     {
         let world = &mut self.world;
         match try_flip(&mut self.runtime, collector, &mut world.contexts, roots) {
-            Flip::Done => Flip::Done,
-            Flip::NotReady(reason) => {
+            Ok(()) => Ok(()),
+            Err(reason) => {
                 end_read(&mut self.runtime, collector, &mut world.contexts, roots);
-                Flip::NotReady(reason)
+                Err(reason)
             }
         }
     }

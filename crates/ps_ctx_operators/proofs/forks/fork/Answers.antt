@@ -108,7 +108,7 @@ returns-clause-forks g c =
     (Keeps-Extends l.heap new extends) c.make_error_dictionary.ensures.sound
     c.granted.ensures.kept c.make_error_dictionary.ensures.grants
     (λ s shows. (rw c.granted.ensures.heap at c.make_error_dictionary.ensures.shows) l.names s
-    shows c.requires.good.names c.requires.good.first) c.integer.result c.integer.ensures.plain
+    shows c.requires.good.names.different c.requires.good.first) c.integer.result c.integer.ensures.plain
     (λ births names. c.integer.ensures.value births names
     ∙ ap integer (to_z_pos w32 c.in-Some-seat.identifier (omega (arith, bound)))))
 
@@ -130,7 +130,7 @@ returns-clause-forked g c =
     (g.M.Memory.grants c.make_error_dictionary.new.memory) c.make_error_dictionary.result
     (Keeps-Extends l.heap new extends) c.make_error_dictionary.ensures.sound
     (λ s shows. (rw c.granted.ensures.heap at c.make_error_dictionary.ensures.shows) l.names s
-    shows c.requires.good.names c.requires.good.first)
+    shows c.requires.good.names.different c.requires.good.first)
     c.make_error_dictionary.ensures.known c.make_error_dictionary.ensures.address
     (rw c.granted.ensures.heap at c.make_error_dictionary.ensures.birth)
     (c.in-Some-procedure_of.ensures.held l.heap

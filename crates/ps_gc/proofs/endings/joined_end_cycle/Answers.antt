@@ -1,4 +1,5 @@
 use Rattle.std.proofs.Common.{◌≡◌, ◌+◌, List, ℕ, ap, sym, subst, ◌∙◌}
+use Rattle.std.specs.Prelude.{Ok, is_ok}
 use Rattle.ps_core_machine.specs.Objects.{among, addresses_named}
 use Rattle.ps_core_machine.specs.declared.events.Vm.{Vm}
 use Rattle.ps_core_machine.specs.declared.events.Gc.{Gc}
@@ -8,9 +9,7 @@ use Rattle.ps_mem.specs.Shows.{AreValues}
 use Rattle.ps_core_laws.specs.Memory.{heap_of}
 use Rattle.ps_core_laws.specs.Stores.{numbers}
 use Rattle.ps_core_laws.specs.Collected.{IsCollected, IsExact}
-use Rattle.ps_core_laws.specs.Tries.{is_done}
 use Rattle.ps_table.proofs.Kept.{keeps_vm, sits_on}
-use Rattle.ps_core_laws.specs.declared.tries.Flip.TheVariants.{Done}
 use Rattle.ps_gc.specs.Flipping.{MayFlip}
 use Rattle.ps_gc.proofs.Ending.{ended_scanned, logs_ended, must_flip}
 use Rattle.ps_gc.proofs.Roots.{still_have}
@@ -49,7 +48,7 @@ unreachable-requires g c =
     let ready : MayFlip n.vm n.gc (numbers c.args.roots.now) =
     subst (λ (x : Vm × Gc). MayFlip x.0 x.1 (numbers c.args.roots.now))
     (λ i. (sym c.meet.ensures.parts.0 i, sym c.meet.ensures.parts.1 i)) may in
-    let done : c.joined_try_flip.result ≡ Done =
+    let done : c.joined_try_flip.result ≡ Ok tt =
     must_flip n.vm n.gc (numbers c.args.roots.now) c.joined_try_flip.result ready
     c.joined_try_flip.ensures.answer in
     absurd (cc)
@@ -62,7 +61,7 @@ returns-clause-moved g c =
     subst (λ (h : Heap). IsCollected h
     (heap_of c.joined_try_flip.new.self.gc.seat.me.0.vm) c.args.roots.now
     c.joined_try_flip.new.roots) heap
-    (c.joined_try_flip.ensures.flips.moved (ap is_done c.in-Done.is))
+    (c.joined_try_flip.ensures.flips.moved (ap is_ok c.in-Ok.is))
 
 pub returns-clause-flips : goal.returns-clause-flips
 returns-clause-flips g c =
@@ -70,12 +69,12 @@ returns-clause-flips g c =
     let kept = ap (λ (v : Vm). v.cycle) c.meet.ensures.parts.0
     ∙ (ap (λ (v : Vm). v.cycle) (keeps_vm _ _ did.0 did.1).part
     ∙ (c.end_logs.ensures.flips ∙ c.hand.ensures.flips)) in
-    ap (λ (v : Vm). v.cycle) (c.joined_try_flip.ensures.parts c.in-Done.is).0
+    ap (λ (v : Vm). v.cycle) (c.joined_try_flip.ensures.parts c.in-Ok.is).0
     ∙ ap (λ n. n + 1) kept
 
 pub returns-clause-quiet : goal.returns-clause-quiet
 returns-clause-quiet g c =
-    let g = c.joined_try_flip.ensures.flips.grants (ap is_done c.in-Done.is) in
+    let g = c.joined_try_flip.ensures.flips.grants (ap is_ok c.in-Ok.is) in
     record { cycle_open = g.cycle_open; closed = g.closed }
 
 pub returns-clause-exact : goal.returns-clause-exact
@@ -91,5 +90,5 @@ returns-clause-exact g c = λ none same.
     ∙ (c.scan_all.ensures.scans.handed ∙ (c.end_logs.ensures.handed ∙ c.hand.ensures.handed)) in
     subst (λ (h : Heap). IsExact h (heap_of c.joined_try_flip.new.self.gc.seat.me.0.vm)
     c.args.roots.now c.joined_try_flip.new.roots) heap
-    (c.joined_try_flip.ensures.exact c.in-Done.is (stored ∙ none)
+    (c.joined_try_flip.ensures.exact c.in-Ok.is (stored ∙ none)
     (λ a. ap (λ (xs : List ℕ). among (addresses_named xs) a) handed ∙ same a))

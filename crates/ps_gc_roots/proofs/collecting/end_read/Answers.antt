@@ -10,7 +10,7 @@ end_cycle-requires g c = record {
       (g.M.Memory.grants c.args.runtime.now.memory) (g.M.Memory.grants c.args.runtime.now.memory)
       c.args.runtime.now.shared c.args.contexts.now c.as_mut_slice.result.now refl
       (c.as_mut_slice.ensures.value ∙ c.requires.read) c.requires.steady
-      c.is_open.ensures.addressed;
+      (g.met.M.LoggedMemory.addressed c.args.runtime.now.memory);
 }
 
 pub returns-clause-kept : goal.returns-clause-kept
@@ -23,7 +23,7 @@ returns-clause-kept g c =
     over-moved (g.M.Memory.heap c.args.runtime.now.memory) (g.M.Memory.heap c.end_cycle.new.memory)
     (g.M.Memory.grants c.args.runtime.now.memory) (g.M.Memory.grants c.end_cycle.new.memory)
     c.args.runtime.now.shared c.args.contexts.now c.as_mut_slice.result.now c.as_slice.result.now c.write_roots.new.contexts
-    c.requires.steady c.is_open.ensures.addressed
+    c.requires.steady (g.met.M.LoggedMemory.addressed c.args.runtime.now.memory)
     (c.as_mut_slice.ensures.value ∙ c.requires.read)
     (subst (λ words. IsCollected (g.M.Memory.heap c.args.runtime.now.memory)
     (g.M.Memory.heap c.end_cycle.new.memory) c.as_mut_slice.result.now words) (sym written)

@@ -9,7 +9,7 @@ hand_over-requires g c = record {
       (g.M.Memory.grants c.args.runtime.now.memory) (g.M.Memory.grants c.args.runtime.now.memory)
       c.args.runtime.now.shared c.args.contexts.now c.as_slice.result.now refl
       (c.as_slice.ensures.value ∙ c.requires.read) c.requires.steady
-      c.is_open.ensures.addressed;
+      (g.met.M.LoggedMemory.addressed c.args.runtime.now.memory);
 }
 
 pub returns-clause-kept : goal.returns-clause-kept

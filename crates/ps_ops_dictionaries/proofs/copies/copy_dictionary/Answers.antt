@@ -195,7 +195,7 @@ returns-in-Ok-asked g c =
             sought = c.requires.good.empty.sought;
             words = c.clear.ensures.items;
           }) _ _ _ c.put_merged.ensures.sound keeps logs change
-          (λ store shown. shows _ store shown.shows c.requires.good.names);
+          (λ store shown. shows _ store shown.shows c.requires.good.names.different);
     })
 
 pub returns-in-Err-asked : goal.returns-in-Err-asked

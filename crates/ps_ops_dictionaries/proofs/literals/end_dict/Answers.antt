@@ -53,7 +53,7 @@ returns-then-len-count g c =
       acts = end_refused _ c.in-Some.depth c.in-Some.ensures.found _ c.topmost-elements.ensures
           c.in_default-test_elements.ensures.tested c.requires.good c.args.attempt c.if-attempt.true
           c.form_names.ensures.more.0 _ c.form_names.ensures.more.1 met
-          c.form_names.ensures.distinct (omega (arith, now, then, same));
+          c.form_names.ensures.names (omega (arith, now, then, same));
     })
 
 pub returns-then-attempt : goal.returns-then-attempt
@@ -77,7 +77,7 @@ returns-then-attempt g c =
       acts = end_noted _ c.in-Some.depth c.in-Some.ensures.found _ c.topmost-elements.ensures
           c.in_default-test_elements.ensures.tested c.requires.good c.args.attempt c.if-attempt.true
           c.form_names.ensures.more.0 _ c.form_names.ensures.more.1 met
-          c.form_names.ensures.distinct (omega (arith, now, then, other, size)) _ logs _
+          c.form_names.ensures.names (omega (arith, now, then, other, size)) _ logs _
           c.len-count.result c.len-count.ensures.count _ refused;
     })
 
@@ -136,6 +136,6 @@ returns g c =
             sought = c.requires.good.empty.sought;
             words = c.make_pairs.ensures.empty;
           }) (logs c.args.attempt.slot) c.form_names.ensures.more.0 _
-          c.form_names.ensures.more.1 met c.form_names.ensures.distinct _ _ keeps ready
+          c.form_names.ensures.more.1 met c.form_names.ensures.names _ _ keeps ready
           (λ s pairs shows within met_again are. left s pairs shows within met_again are);
     }

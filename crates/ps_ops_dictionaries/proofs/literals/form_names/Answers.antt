@@ -39,7 +39,7 @@ loop-place-preserved g c =
             ∙ append_assoc c.args.names.now c.loop-place.invariant.more.0
             (name_of c.read_key-read.result))),
       );
-      distinct = made.1;
+      are = made.1;
       met = λ s shows within.
           names_next h c.args.names.now c.loop-place.invariant.more.0 c.loop-place.names
           c.loop-place.invariant.more.1 ws c.loop-place.place

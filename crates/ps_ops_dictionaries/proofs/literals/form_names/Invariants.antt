@@ -1,8 +1,9 @@
-use Rattle.std.proofs.Common.{◌≡◌, ◌≢◌, ℕ, ◌*◌, ◌++◌, List, drop, AllPairs}
+use Rattle.std.proofs.Common.{◌≡◌, ℕ, ◌*◌, ◌++◌, List, drop}
 use Rattle.std.specs.Prelude.{fold}
 use Rattle.ps_language.specs.Dictionaries.{meet}
 use Rattle.ps_language.specs.Value.{Store}
 use Rattle.ps_mem.specs.Shows.{AreWithin, Shows}
+use Rattle.ps_names.specs.Names.{AreNames}
 use Rattle.ps_ops_operands.specs.Changes.{values_in}
 use Rattle.ps_ops_dictionaries.specs.Literals.{met_among, texts_among}
 use Rattle.ps_ops_dictionaries.proofs.literals.form_names.Given as goal
@@ -16,7 +17,7 @@ invariant-loop-place g l =
       heap : g.M.Memory.heap l.memory ≡ h;
       grants : g.M.Memory.grants l.memory ≡ g.M.Memory.grants l.fn.memory;
       more : (more : List (List ℕ)) × (l.names ≡ l.fn.names ++ more);
-      distinct : AllPairs (λ one later. one ≢ later) l.names;
+      are : AreNames l.names;
       met : (s : Store) → Shows h l.fn.names s → AreWithin h l.fn.names s l.elements
           → met_among l.fn.names s values
           ≡ fold meet l.names (texts_among s (drop (2 * l.place) values));

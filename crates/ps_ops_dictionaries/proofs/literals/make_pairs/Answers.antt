@@ -50,4 +50,4 @@ returns-clause-left g c = λ s pairs shows.
     c.topmost.result.now c.gather_pairs.new.words.items c.topmost.ensures
     (omega (arith, c.requires.within)) c.requires.even c.gather_pairs.ensures.count s
     (λ above. inside s shows above) (λ above met. gathered s shows above met)
-    (λ words. shown names s shows c.requires.distinct words) pairs shows
+    (λ words. shown names s shows c.requires.names.different words) pairs shows

@@ -4,4 +4,4 @@ use Rattle.ps_ops_dictionaries.proofs.puts.put_entry.Goals as goal
 
 pub put_word-requires-clause-key : goal.put_word-requires-clause-key
 put_word-requires-clause-key g c =
-    plain_key_is _ _ _ c.len-count.ensures.names c.requires.key c.in-None.ensures.part
+    plain_key_is _ _ _ c.requires.good.names c.requires.key c.in-None.ensures.part

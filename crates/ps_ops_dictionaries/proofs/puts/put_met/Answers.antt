@@ -24,7 +24,7 @@ returns-then-matches-clause-acts g c =
     full_raises (lent heap (g.M.Memory.grants c.args.runtime.now.memory) c.args.context.now
     c.args.runtime.now.shared) c.args.entry.address c.args.entry.key c.args.entry.value
     c.args.entry.operands store
-    ((c.plan_put-plan.ensures.full c.args.runtime.now.shared.names store shown.shows c.requires.good.names
+    ((c.plan_put-plan.ensures.full c.args.runtime.now.shared.names store shown.shows c.requires.good.names.different
     (inside store shown).0
     (value_of (birth_at heap) c.args.runtime.now.shared.names c.args.entry.value)).0 full))
 

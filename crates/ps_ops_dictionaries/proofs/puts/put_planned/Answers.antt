@@ -12,7 +12,7 @@ returns-in-Ok-clause-acts g c = λ attempt slot room inside.
     rw (c.discard.ensures)
     (put_acts _ c.requires.good _ _ _ _ _ c.requires.known c.requires.key c.requires.plan
     c.requires.possible attempt inside room _ _ _ c.put.ensures.sound keeps asked change
-    (λ store shown d is. shows _ store shown.shows c.requires.good.names (inside store shown).0
+    (λ store shown d is. shows _ store shown.shows c.requires.good.names.different (inside store shown).0
     (inside store shown).1 d is))
 
 pub returns-in-Err-clause-acts : goal.returns-in-Err-clause-acts

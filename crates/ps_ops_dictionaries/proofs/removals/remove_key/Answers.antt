@@ -9,7 +9,7 @@ returns-in_default g c =
     (record {
       acts = λ attempt slot inside. absent_acts _ c.requires.good c.args.address c.args.key
           c.requires.known c.position.result
-          (λ store shown. c.position.ensures.value _ store shown.shows c.requires.good.names
+          (λ store shown. c.position.ensures.value _ store shown.shows c.requires.good.names.different
           (inside store shown)) attempt c.in_default.is;
     })
 
@@ -32,7 +32,7 @@ returns-in-Err g c = record {
       rw (c.asked.ensures.heap, c.removal_records-records.ensures.heap, c.position.ensures.heap)
       (recordless_acts _ c.requires.good c.args.address c.args.key c.requires.known
       c.position.result
-      (λ store shown. c.position.ensures.value _ store shown.shows c.requires.good.names
+      (λ store shown. c.position.ensures.value _ store shown.shows c.requires.good.names.different
       (inside store shown)) attempt c.in-Some.place c.in-Some.is _ logs c.in-Err.reason lack);
 }
 
@@ -58,7 +58,7 @@ returns-in-Err-remove g c = record {
       )
       (roomless_acts _ c.requires.good c.args.address c.args.key c.requires.known
       c.position.result
-      (λ store shown. c.position.ensures.value _ store shown.shows c.requires.good.names
+      (λ store shown. c.position.ensures.value _ store shown.shows c.requires.good.names.different
       (inside store shown)) attempt c.in-Some.place c.in-Some.is _ _ logs
       (record {
         text = omega arith;
@@ -99,7 +99,7 @@ returns-in-Ok g c = record {
       rw c.discard-in-Ok.ensures
       (removed_acts _ c.requires.good c.args.address c.args.key c.requires.known
       c.position.result
-      (λ store shown. c.position.ensures.value _ store shown.shows c.requires.good.names
+      (λ store shown. c.position.ensures.value _ store shown.shows c.requires.good.names.different
       (inside store shown)) attempt c.in-Some.place c.in-Some.is _ _ _ _ c.in-Ok.ensures.sound keeps
       logs change
       (record { text = omega arith; sought = omega arith; words = c.in-Ok.ensures.room })

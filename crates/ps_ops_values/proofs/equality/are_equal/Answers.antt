@@ -30,7 +30,7 @@ returns-in-Some-None-clause-found g c = record {
       readable_both s _ _ (c.in_ok-first.ensures.readable _ _)
       (c.in_ok-second.ensures.readable _ _)
       ∙ ap leaves (equal_turned s _ _
-      ∙ sym (c.is_its_name-in-Some-None.ensures.value s shows distinct inside within));
+      ∙ sym (c.is_its_name-in-Some-None.ensures.value s shows inside within));
 }
 
 pub returns-in-Some-Some-clause-found : goal.returns-in-Some-Some-clause-found

@@ -9,14 +9,14 @@ is_same_key-requires-clause-right g c =
     c.in-Some.ensures).word
 
 pub returns-in-Some-clause-value : goal.returns-in-Some-clause-value
-returns-in-Some-clause-value g c = λ s shows distinct within inside.
+returns-in-Some-clause-value g c = λ s shows within inside.
     c.is_same_key.ensures
     ∙ met_equal (g.M.Memory.heap c.args.memory.now) _ _ c.requires.sound c.args.plain
-    c.requires.plain c.requires.other s shows distinct within inside _ c.read_key.ensures.key _
+    c.requires.plain c.requires.other s shows c.requires.names.different within inside _ c.read_key.ensures.key _
     c.in-Some.ensures
 
 pub returns-in-None-clause-value : goal.returns-in-None-clause-value
-returns-in-None-clause-value g c = λ s shows distinct within inside.
+returns-in-None-clause-value g c = λ s shows within inside.
     unmet_equal (g.M.Memory.heap c.args.memory.now) _ _ c.requires.sound c.args.plain
-    c.requires.plain c.requires.other s shows distinct within inside _ c.read_key.ensures.key
+    c.requires.plain c.requires.other s shows c.requires.names.different within inside _ c.read_key.ensures.key
     c.in-None.ensures

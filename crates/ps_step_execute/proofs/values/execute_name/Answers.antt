@@ -24,7 +24,7 @@ returns-in-Ok-Some g c =
     c.in-Ok-Some.found is (c.look_up.ensures.within _ s shown.shows shown.dictionaries))
     (finds_value l c.args.word c.look_up.result
     (IsShownWith (c.args.word ∷ c.args.command ∷ []) [])
-    (λ s held. c.look_up.ensures.value _ s _ held.shown.shows c.requires.good.names
+    (λ s held. c.look_up.ensures.value _ s _ held.shown.shows c.requires.good.names.different
     (refl, held.words_within.0)) c.in-Ok-Some.found is)
     (rw (c.look_up.ensures.heap, c.look_up.ensures.grants) at c.treat.ensures)
 
@@ -35,7 +35,7 @@ returns-in-Ok-None g c =
     (c.requires.name _ _)
     (finds_none l c.args.word c.look_up.result
     (IsShownWith (c.args.word ∷ c.args.command ∷ []) [])
-    (λ s held. c.look_up.ensures.value _ s _ held.shown.shows c.requires.good.names
+    (λ s held. c.look_up.ensures.value _ s _ held.shown.shows c.requires.good.names.different
     (refl, held.words_within.0))
     (c.in-Ok-None.is ∙ ap Ok c.in-Ok-None.field-0-is))
     (rw (c.look_up.ensures.heap, c.look_up.ensures.grants) at c.raise.ensures)
@@ -47,6 +47,6 @@ returns-in-Err g c =
     (c.requires.name _ _)
     (finds_closed l c.args.word c.look_up.result
     (IsShownWith (c.args.word ∷ c.args.command ∷ []) [])
-    (λ s held. c.look_up.ensures.value _ s _ held.shown.shows c.requires.good.names
+    (λ s held. c.look_up.ensures.value _ s _ held.shown.shows c.requires.good.names.different
     (refl, held.words_within.0)) _ c.in-Err.is)
     (rw (c.look_up.ensures.heap, c.look_up.ensures.grants) at c.raise-in-Err.ensures)

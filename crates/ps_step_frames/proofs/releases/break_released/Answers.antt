@@ -11,7 +11,7 @@ returns-in-Ok g c =
     rw c.untold.ensures
     (released l c.requires.good c.args.lock c.requires.known c.args.attempt c.args.cause
     (λ s shown. c.place_of_told.ensures.value c.args.runtime.now.shared.names s c.requires.good.first
-    c.requires.good.names shown.shows ∙ ap is_some c.in-None.is)
+    c.requires.good.names.different shown.shows ∙ ap is_some c.in-None.is)
     _ _ (rw c.place_of_told.ensures.heap at c.release.ensures.keeps) c.release.ensures.sound
     (rw (c.in-Ok.is, c.place_of_told.ensures.grants) at c.release.ensures.logs)
     (rw (c.in-Ok.is, c.place_of_told.ensures.heap) at c.release.ensures.shows))
@@ -22,7 +22,7 @@ returns-in-Err g c =
     rw (c.in-Err.ensures.unmade ∙ c.place_of_told.ensures.heap)
     (release_unmade l c.requires.good c.args.lock c.requires.known c.args.attempt c.args.cause false
     (λ s shown. c.place_of_told.ensures.value c.args.runtime.now.shared.names s c.requires.good.first
-    c.requires.good.names shown.shows ∙ ap is_some c.in-None.is)
+    c.requires.good.names.different shown.shows ∙ ap is_some c.in-None.is)
     _ (rw c.place_of_told.ensures.grants at c.in-Err.ensures.logs)
     c.in-Err.reason 1 (omega arith) refl
     (rw c.place_of_told.ensures.grants at c.in-Err.ensures.reason))

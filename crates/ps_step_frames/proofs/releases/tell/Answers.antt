@@ -30,7 +30,7 @@ returns-in-Err g c =
     (release_unmade l c.requires.good c.args.lock c.requires.known c.args.attempt Stop true
     (λ s shown. is_told_here l c.requires.good c.args.lock c.requires.known c.args.attempt
     c.requires.last (λ t held. c.requires.new l.names t c.requires.good.first
-    c.requires.good.names held.shows) s shown)
+    c.requires.good.names.different held.shows) s shown)
     _ (logs_asked c.args.attempt.slot _ _ permit.kept permit.others permit.more)
     c.in-Err.reason 2 (omega arith) refl c.in-Err.ensures.reason)
 
@@ -48,10 +48,10 @@ returns-in-Err-print_line g c =
       c.in-Err-print_line.ensures.err,
     )
     (line_lacks l c.requires.good c.args.lock c.requires.known c.args.attempt c.requires.last
-    (λ t held. c.requires.new l.names t c.requires.good.first c.requires.good.names held.shows)
+    (λ t held. c.requires.new l.names t c.requires.good.first c.requires.good.names.different held.shows)
     _ _ (omega (arith, more))
     (logs_asked c.args.attempt.slot _ _ permit.kept permit.others permit.more)
-    (λ s shown. (line s c.requires.good.first c.requires.good.names shown.shows).full))
+    (λ s shown. (line s c.requires.good.first c.requires.good.names.different shown.shows).full))
 
 pub put-requires-clause-plan : goal.put-requires-clause-plan
 unfolding plan_at
@@ -84,7 +84,7 @@ returns g c =
     let births = birth_at h in
     let address = c.args.context.now.error_dictionary in
     let first = c.requires.good.first in
-    let distinct = c.requires.good.names in
+    let distinct = c.requires.good.names.different in
     let known = c.requires.good.error_stands.stands in
     let sound = c.requires.good.sound in
     let key = c.requires.key in

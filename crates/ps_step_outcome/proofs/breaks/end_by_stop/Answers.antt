@@ -29,7 +29,7 @@ returns-in_default g c =
     rw (c.position.ensures.heap, c.position.ensures.grants)
     (stops_turns c.args.attempt _ c.requires.good c.requires.last
     (λ s shown. none_found _ (sym c.in_default.is
-    ∙ (c.position.ensures.value names s shown.shows c.requires.good.names
+    ∙ (c.position.ensures.value names s shown.shows c.requires.good.names.different
     (named_within names met births _ _ _ key newerror_first s)
     ∙ ap (first_place (dictionary_at s (births c.args.context.now.error_dictionary)).pairs)
     (named_met names met births _ _ _ key newerror_first)))))
@@ -42,7 +42,7 @@ returns-then-not-has_new_error g c =
       c.has_new_error.ensures.grants ∙ c.position.ensures.grants,
     )
     (stops_turns c.args.attempt _ c.requires.good c.requires.last
-    (λ s shown. sym (new c.args.runtime.now.shared.names s c.requires.good.first c.requires.good.names
+    (λ s shown. sym (new c.args.runtime.now.shared.names s c.requires.good.first c.requires.good.names.different
     shown.shows) ∙ c.if-not-has_new_error.true))
 
 pub returns-in-Err : goal.returns-in-Err
@@ -53,7 +53,7 @@ returns-in-Err g c =
     let news : (s : Store) → IsShown (lent_of g.M.Memory.heap g.M.Memory.grants c.args.context.now c.args.runtime.now) s
     → has_new_error (dictionary_at s (birth_at (g.M.Memory.heap c.args.runtime.now.memory)
     c.args.context.now.error_dictionary)) ≡ true = λ s shown.
-    sym (new c.args.runtime.now.shared.names s c.requires.good.first c.requires.good.names shown.shows)
+    sym (new c.args.runtime.now.shared.names s c.requires.good.first c.requires.good.names.different shown.shows)
     ∙ c.if-not-has_new_error.false in
     rw (permit.heap ∙ (c.has_new_error.ensures.heap ∙ c.position.ensures.heap))
     (untold_reason c.args.attempt _ c.requires.good c.requires.last news _ _ c.in-Err.reason
@@ -80,10 +80,10 @@ returns-in-Err-print_line g c =
       c.in-Err-print_line.ensures.err,
     )
     (untold_reason c.args.attempt _ c.requires.good c.requires.last
-    (λ s shown. sym (new c.args.runtime.now.shared.names s c.requires.good.first c.requires.good.names
+    (λ s shown. sym (new c.args.runtime.now.shared.names s c.requires.good.first c.requires.good.names.different
     shown.shows) ∙ c.if-not-has_new_error.false)
     _ _ _
-    (λ s shown. inl ((line s c.requires.good.first c.requires.good.names shown.shows).full))
+    (λ s shown. inl ((line s c.requires.good.first c.requires.good.names.different shown.shows).full))
     (omega (arith, more))
     (logs_asked c.args.attempt.slot _ _ (rw grants at permit.kept) (rw grants at permit.others)
     (rw grants at permit.more)))
@@ -112,7 +112,7 @@ returns g c =
     let births = birth_at h in
     let address = c.args.context.now.error_dictionary in
     let first = c.requires.good.first in
-    let distinct = c.requires.good.names in
+    let distinct = c.requires.good.names.different in
     let known = c.requires.good.error_stands.stands in
     let sound = c.requires.good.sound in
     let key = c.error_keys-keys.ensures.newerror in

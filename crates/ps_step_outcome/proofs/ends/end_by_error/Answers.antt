@@ -38,7 +38,7 @@ returns-in-Err-print_line g c =
     )
     (not_ended c.args.error c.args.command c.args.attempt _ c.requires.good c.requires.last
     c.plan_error-plan.result
-    (λ s held. planned names s held.shown.shows c.requires.good.names
+    (λ s held. planned names s held.shown.shows c.requires.good.names.different
     (entries.within _ names s first held.words_within.0)
     ∙ plan_valued births names c.entries_of-entries.result false c.args.error _ valued _)
     _ _
@@ -67,7 +67,7 @@ returns g c =
     rw c.in-Ok-print_line.ensures.bounded.most
     (ended_on c.args.error c.args.command c.args.attempt _ c.requires.good c.requires.last
     c.plan_error-plan.result
-    (λ s held. planned names s held.shown.shows c.requires.good.names
+    (λ s held. planned names s held.shown.shows c.requires.good.names.different
     (entries.within _ names s first held.words_within.0)
     ∙ plan_valued births names c.entries_of-entries.result false c.args.error _ valued _)
     _ _ _ _ (rw there at c.put_error.ensures.keeps)
@@ -78,7 +78,7 @@ returns g c =
     (λ s held. subst (λ pairs. Shows (g.M.Memory.heap c.put_error.new.memory) names
     (with_dictionary s (births c.args.context.now.error_dictionary) (with_entries pairs
     (dictionary_at s (births c.args.context.now.error_dictionary))))) valued
-    ((rw there at c.put_error.ensures.shows) names s held.shown.shows c.requires.good.names
+    ((rw there at c.put_error.ensures.shows) names s held.shown.shows c.requires.good.names.different
     (entries.within _ names s first held.words_within.0)))
     (logs_noted c.args.attempt.slot _ _ permit.kept permit.others permit.more _
     c.plan_error-plan.result (rw grants at c.put_error.ensures.grants))

@@ -29,7 +29,7 @@ raise-requires-clause-good g c =
     let news : AreNames names = subst AreNames (sym met)
     (met_names l.names text c.len-count.ensures.names c.requires.short c.in-Ok.id.0
     c.in-Ok.ensures.number c.in-Ok.ensures.below) in
-    formed_good l (added l.names text) names are c.requires.good news.different
+    formed_good l (added l.names text) names are c.requires.good news
 
 pub raise-requires-clause-held : goal.raise-requires-clause-held
 raise-requires-clause-held g c =

@@ -27,7 +27,7 @@ do_met-requires-clause-good g c =
     (met_names l.names text c.len-count.ensures.names c.requires.short c.in-Ok.id.0
     c.in-Ok.ensures.number c.in-Ok.ensures.below) in
     formed_good l (added l.names text) names (met ∙ meet_is l.names text) c.requires.good
-    news.different
+    news
 
 pub do_met-requires-clause-word : goal.do_met-requires-clause-word
 do_met-requires-clause-word g c =

@@ -22,7 +22,7 @@ returns-in-Ok-Some g c =
     (λ s shown. found_as (IsWithin (birth_at l.heap) l.names s) c.look_up.result
     c.in-Ok-Some.found is (c.look_up.ensures.within _ s shown.shows shown.dictionaries))
     (finds_value l c.args.word c.look_up.result IsShown (λ s shown. c.look_up.ensures.value _ s _
-    shown.shows c.requires.good.names (refl, c.requires.word.within s shown))
+    shown.shows c.requires.good.names.different (refl, c.requires.word.within s shown))
     c.in-Ok-Some.found is)
     (rw (c.look_up.ensures.heap, c.look_up.ensures.grants) at c.do_element.ensures)
 
@@ -31,7 +31,7 @@ returns-in-Ok-None g c =
     let l : Lent = (lent_of g.M.Memory.heap g.M.Memory.grants c.args.context.now c.args.runtime.now) in
     value_unknown l c.args.word c.requires.word c.args.attempt _ _ g.O.Operate.asks
     (finds_none l c.args.word c.look_up.result IsShown (λ s shown. c.look_up.ensures.value _ s _
-    shown.shows c.requires.good.names (refl, c.requires.word.within s shown))
+    shown.shows c.requires.good.names.different (refl, c.requires.word.within s shown))
     (c.in-Ok-None.is ∙ ap Ok c.in-Ok-None.field-0-is))
     (rw (c.look_up.ensures.heap, c.look_up.ensures.grants) at c.raise.ensures)
 
@@ -40,5 +40,5 @@ returns-in-Err g c =
     let l : Lent = (lent_of g.M.Memory.heap g.M.Memory.grants c.args.context.now c.args.runtime.now) in
     value_unreadable l c.args.word c.requires.word c.args.attempt _ _ g.O.Operate.asks
     (finds_closed l c.args.word c.look_up.result IsShown (λ s shown. c.look_up.ensures.value _ s _
-    shown.shows c.requires.good.names (refl, c.requires.word.within s shown)) _ c.in-Err.is)
+    shown.shows c.requires.good.names.different (refl, c.requires.word.within s shown)) _ c.in-Err.is)
     (rw (c.look_up.ensures.heap, c.look_up.ensures.grants) at c.raise-in-Err.ensures)

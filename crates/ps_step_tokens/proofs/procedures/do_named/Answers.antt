@@ -21,7 +21,7 @@ do_formed-requires-clause-good g c =
     let content = tokens_in c.args.text.now c.args.elements.now in
     let more = c.in-Ok.ensures.more in
     formed_good l more.0 c.meet_names.new.names more.1 c.requires.good
-    c.in-Ok.ensures.are.different
+    c.in-Ok.ensures.are
 
 pub do_formed-requires-clause-met : goal.do_formed-requires-clause-met
 do_formed-requires-clause-met g c =

@@ -1,5 +1,5 @@
-use Rattle.ps_core_laws.specs.Tries.{is_done}
 use Rattle.ps_core_laws.proofs.Marks.{Covers-either}
+use Rattle.std.specs.Prelude.{is_ok}
 use Rattle.ps_core_laws.proofs.marked.PastCollectsMarked.try_flip.Goals as goal
 
 pub invariant_of-memory : goal.invariant_of-memory
@@ -9,6 +9,6 @@ invariant_of-memory g c =
     record {
       covers = Covers-either (g.M.Memory.heap s.memory)
           (g.M.Memory.heap c.try_flip.new.memory) s.marks.items.items s.covers
-          (is_done c.try_flip.result) (λ e. let k = flips.moved e in (k.forward, k.moves))
+          (is_ok c.try_flip.result) (λ e. let k = flips.moved e in (k.forward, k.moves))
           flips.heap_stays;
     }

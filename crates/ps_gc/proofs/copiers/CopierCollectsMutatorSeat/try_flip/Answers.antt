@@ -1,6 +1,7 @@
 use Rattle.std.proofs.Common.{ap, ◌∙◌, subst}
+use Rattle.std.specs.Prelude.{Result}
 use Rattle.ps_core_machine.specs.Objects.{values_stand}
-use Rattle.ps_core_laws.specs.declared.tries.Flip.{Flip}
+use Rattle.ps_core_laws.specs.declared.tries.Unready.{Unready}
 use Rattle.ps_core_laws.specs.Stores.{numbers}
 use Rattle.ps_core_laws.specs.Tries.{IsFlip}
 use Rattle.ps_table.specs.declared.mutator.VmSeat.{VmSeat}
@@ -14,30 +15,30 @@ try_flip-requires-clause-stand g c =
     c.used-used.ensures.same
     ∙ values_name c.args.memory.now.vm.seat.me.0.vm c.args.roots.now c.requires.values
 
-pub returns-in-NotReady-clause-answer : goal.returns-in-NotReady-clause-answer
-returns-in-NotReady-clause-answer g c =
-    subst (λ (x : Flip × VmSeat). Answers x.1.seat.me.0.vm
+pub returns-in-Err-clause-answer : goal.returns-in-Err-clause-answer
+returns-in-Err-clause-answer g c =
+    subst (λ (x : Result Unit Unready × VmSeat). Answers x.1.seat.me.0.vm
     c.args.self.now.collector.gc.seat.me.0.gc (numbers c.args.roots.now) x.0)
-    (λ i. (c.in-NotReady.is i, c.used-used.ensures.same i)) c.try_flip.ensures.answer
+    (λ i. (c.in-Err.is i, c.used-used.ensures.same i)) c.try_flip.ensures.answer
 
-pub returns-in-NotReady-clause-flips : goal.returns-in-NotReady-clause-flips
-returns-in-NotReady-clause-flips g c =
-    subst (λ (x : Flip × VmSeat). IsFlip x.0
+pub returns-in-Err-clause-flips : goal.returns-in-Err-clause-flips
+returns-in-Err-clause-flips g c =
+    subst (λ (x : Result Unit Unready × VmSeat). IsFlip x.0
     (sides_seen x.1.seat.me.0 c.args.self.now.collector.gc.seat.me.0)
     (sides_seen c.try_flip.new.vm.seat.me.0 c.try_flip.new.self.gc.seat.me.0)
     c.args.roots.now c.try_flip.new.roots)
-    (λ i. (c.in-NotReady.is i, c.used-used.ensures.same i)) c.try_flip.ensures.flips
+    (λ i. (c.in-Err.is i, c.used-used.ensures.same i)) c.try_flip.ensures.flips
 
-pub returns-in-Done-clause-answer : goal.returns-in-Done-clause-answer
-returns-in-Done-clause-answer g c =
-    subst (λ (x : Flip × VmSeat). Answers x.1.seat.me.0.vm
+pub returns-in-Ok-clause-answer : goal.returns-in-Ok-clause-answer
+returns-in-Ok-clause-answer g c =
+    subst (λ (x : Result Unit Unready × VmSeat). Answers x.1.seat.me.0.vm
     c.args.self.now.collector.gc.seat.me.0.gc (numbers c.args.roots.now) x.0)
-    (λ i. (c.in-Done.is i, c.used-used.ensures.same i)) c.try_flip.ensures.answer
+    (λ i. (c.in-Ok.is i, c.used-used.ensures.same i)) c.try_flip.ensures.answer
 
-pub returns-in-Done-clause-flips : goal.returns-in-Done-clause-flips
-returns-in-Done-clause-flips g c =
-    subst (λ (x : Flip × VmSeat). IsFlip x.0
+pub returns-in-Ok-clause-flips : goal.returns-in-Ok-clause-flips
+returns-in-Ok-clause-flips g c =
+    subst (λ (x : Result Unit Unready × VmSeat). IsFlip x.0
     (sides_seen x.1.seat.me.0 c.args.self.now.collector.gc.seat.me.0)
     (sides_seen c.try_flip.new.vm.seat.me.0 c.try_flip.new.self.gc.seat.me.0)
     c.args.roots.now c.try_flip.new.roots)
-    (λ i. (c.in-Done.is i, c.used-used.ensures.same i)) c.try_flip.ensures.flips
+    (λ i. (c.in-Ok.is i, c.used-used.ensures.same i)) c.try_flip.ensures.flips

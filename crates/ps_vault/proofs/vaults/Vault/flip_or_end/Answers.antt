@@ -1,9 +1,10 @@
 -- All contexts are at the world that they were at.
 use Rattle.std.proofs.Common.{◌≡◌, ◌+◌, List, true, false, true≢false, refl, ap, subst, sym, ◌∙◌}
+use Rattle.std.specs.Prelude.{Result, is_ok}
 use Rattle.ps_word.specs.declared.words.Word.{Word}
 use Rattle.ps_mem.specs.Heap.{Grants, Heap, Space}
-use Rattle.ps_core_laws.specs.declared.tries.Flip.{Flip}
-use Rattle.ps_core_laws.specs.Tries.{BothSides, IsFlip, is_done, sides_of}
+use Rattle.ps_core_laws.specs.declared.tries.Unready.{Unready}
+use Rattle.ps_core_laws.specs.Tries.{BothSides, IsFlip, sides_of}
 use Rattle.ps_ops_state.specs.declared.lent.Shared.{Shared}
 use Rattle.ps_gc_roots.specs.Roots.{roots_in}
 use Rattle.ps_gc_roots.proofs.Moving.{keeps-then}
@@ -23,10 +24,10 @@ invariant_of-self g c =
     keeps_collected _ _ _ c.self.inside.schedule.items
     (c.try_flip.ensures.kept c.self.inside.world.calling) c.self.invariant
 
-pub returns-in-Done-clause-ended : goal.returns-in-Done-clause-ended
-returns-in-Done-clause-ended g c =
+pub returns-in-Ok-clause-ended : goal.returns-in-Ok-clause-ended
+returns-in-Ok-clause-ended g c =
     let f = c.try_flip.ensures.flips.flips in
-    let yes = ap is_done c.in-Done.is in
+    let yes = ap is_ok c.in-Ok.is in
     let is : Heap = g.M.Memory.heap c.try_flip.new.runtime.memory in
     let moved = (f.moved yes).moves.space in
     let view = c.self.view_is in
@@ -48,8 +49,8 @@ returns-in-Done-clause-ended g c =
       closed = logs i;
     }
 
-pub returns-in-Done-clause-tried : goal.returns-in-Done-clause-tried
-returns-in-Done-clause-tried g c =
+pub returns-in-Ok-clause-tried : goal.returns-in-Ok-clause-tried
+returns-in-Ok-clause-tried g c =
     let memory = c.self.inside.runtime.memory in
     let left = c.try_flip.new.runtime.memory in
     let roots : List Word = roots_in c.self.inside.world.contexts.table in
@@ -68,10 +69,10 @@ returns-in-Done-clause-tried g c =
       roots = roots;
       renamed = c.try_flip.new.roots.words.items;
       few = c.try_flip.ensures.flips.few;
-      answer = subst (λ (came : Flip). g.C.Collects.answers c.args.collector.now memory roots came)
-          c.in-Done.is c.try_flip.ensures.answer;
-      flips = subst (λ (came : Flip). IsFlip came old new roots
-          c.try_flip.new.roots.words.items) c.in-Done.is c.try_flip.ensures.flips.flips;
+      answer = subst (λ (came : Result Unit Unready). g.C.Collects.answers c.args.collector.now memory roots came)
+          c.in-Ok.is c.try_flip.ensures.answer;
+      flips = subst (λ (came : Result Unit Unready). IsFlip came old new roots
+          c.try_flip.new.roots.words.items) c.in-Ok.is c.try_flip.ensures.flips.flips;
       left_is = λ yes. memory_of _ c.self.inside.schedule.items _
           (keeps_collected _ _ _ c.self.inside.schedule.items
           (c.try_flip.ensures.kept c.self.inside.world.calling) c.self.invariant) refl refl
@@ -88,24 +89,24 @@ end_read-requires-clause-steady g c =
 pub end_read-requires-clause-open : goal.end_read-requires-clause-open
 end_read-requires-clause-open g c =
     let f = c.try_flip.ensures.flips.flips in
-    ap (λ (g : Grants). g.cycle_open) (f.grants_stay (ap is_done c.in-NotReady.is))
+    ap (λ (g : Grants). g.cycle_open) (f.grants_stay (ap is_ok c.in-Err.is))
     ∙ (ap (λ (s : Story). s.cycle_open) c.self.view_is ∙ c.requires.«open»)
 
 pub end_read-requires-clause-read : goal.end_read-requires-clause-read
 end_read-requires-clause-read g c =
     let f = c.try_flip.ensures.flips in
-    let none = ap is_done c.in-NotReady.is in
+    let none = ap is_ok c.in-Err.is in
     f.flips.roots_stay none ∙ ap roots_in (sym (f.stays none))
 
-pub invariant_of-self-in-NotReady : goal.invariant_of-self-in-NotReady
-invariant_of-self-in-NotReady g c =
+pub invariant_of-self-in-Err : goal.invariant_of-self-in-Err
+invariant_of-self-in-Err g c =
     let calling = c.self.inside.world.calling in
     keeps_collected _ _ _ c.self.inside.schedule.items
     (keeps-then _ _ _ (c.try_flip.ensures.kept calling) (c.end_read.ensures.kept calling))
     c.self.invariant
 
-pub returns-in-NotReady-clause-tried : goal.returns-in-NotReady-clause-tried
-returns-in-NotReady-clause-tried g c =
+pub returns-in-Err-clause-tried : goal.returns-in-Err-clause-tried
+returns-in-Err-clause-tried g c =
     let memory = c.self.inside.runtime.memory in
     let left = c.try_flip.new.runtime.memory in
     let roots : List Word = roots_in c.self.inside.world.contexts.table in
@@ -124,18 +125,18 @@ returns-in-NotReady-clause-tried g c =
       roots = roots;
       renamed = c.try_flip.new.roots.words.items;
       few = c.try_flip.ensures.flips.few;
-      answer = subst (λ (came : Flip). g.C.Collects.answers c.args.collector.now memory roots came)
-          c.in-NotReady.is c.try_flip.ensures.answer;
-      flips = subst (λ (came : Flip). IsFlip came old new roots
-          c.try_flip.new.roots.words.items) c.in-NotReady.is c.try_flip.ensures.flips.flips;
+      answer = subst (λ (came : Result Unit Unready). g.C.Collects.answers c.args.collector.now memory roots came)
+          c.in-Err.is c.try_flip.ensures.answer;
+      flips = subst (λ (came : Result Unit Unready). IsFlip came old new roots
+          c.try_flip.new.roots.words.items) c.in-Err.is c.try_flip.ensures.flips.flips;
       left_is = λ yes. absurd (true≢false (sym yes));
       collector_is = λ yes. absurd (true≢false (sym yes));
     }
 
-pub returns-in-NotReady-clause-ended : goal.returns-in-NotReady-clause-ended
-returns-in-NotReady-clause-ended g c =
+pub returns-in-Err-clause-ended : goal.returns-in-Err-clause-ended
+returns-in-Err-clause-ended g c =
     let f = c.try_flip.ensures.flips.flips in
-    let none = ap is_done c.in-NotReady.is in
+    let none = ap is_ok c.in-Err.is in
     let view = c.self.view_is in
     let is : Heap = g.M.Memory.heap c.end_read.new.runtime.memory in
     let shared = c.end_read.ensures.shared ∙ c.try_flip.ensures.shared in
