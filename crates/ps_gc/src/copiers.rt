@@ -25,6 +25,7 @@ use ps_core_laws::sides::{Collects, Works};
 use ps_mem::Memory;
 use ps_record::slots::Slot;
 use ps_record::{Record, SLOTS};
+use ps_table::{join, part};
 use ps_word::words::Word;
 use std::alloc::{AllocError, Global};
 use std::marker::PhantomData;
@@ -228,7 +229,11 @@ impl<J: Naming> Collects<MutatorSeat<J>> for Copier<J> {
             roots.old roots.new }
     {
         let used = memory.vm.used();
-        match self.collector.try_flip(&mut memory.vm, roots) {
+        let (vm, collector) = (&mut memory.vm, &mut self.collector);
+        join(&vm.table, &mut vm.seat, &mut collector.gc.seat);
+        let flip = collector.joined_try_flip(&mut vm.mirror, roots);
+        part(&vm.table, &mut vm.seat, &mut collector.gc.seat);
+        match flip {
             Err(why) => Err(why),
             Ok(()) => {
                 self.pending.clear();

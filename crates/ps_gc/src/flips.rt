@@ -23,7 +23,7 @@ use atomic_table::Seat;
 use ps_core_laws::Unready;
 use ps_record::SLOTS;
 use ps_record::slots::Slot;
-use ps_table::{GcSeat, Mirror, View, VmSeat, Words, join, part};
+use ps_table::{GcSeat, Mirror, View, VmSeat, Words};
 use ps_word::words::Word;
 use std::marker::Brand;
 
@@ -205,36 +205,5 @@ impl Collector {
             × (vm.new.seat.table_id ≡ vm.old.seat.table_id) }
     {
         vm.hand_over(&mut self.gc, roots);
-    }
-
-    /// Ends the open cycle by the flip, where all logs are closed and drained, all fields filled
-    /// and what the roots refer to has replicas; else answers the first of these that doesn't hold.
-    pub fn try_flip(&mut self, vm: &mut VmSeat, roots: &mut [Word]) -> Result<(), Unready>
-        requires same { vm.old.seat.table_id ≡ self.old.gc.seat.table_id }
-        requires open { is_open vm.old.seat.me.0.vm ≡ true }
-        requires stand { values_stand vm.old.seat.me.0.vm.objects (numbers roots.old) ≡ true }
-        ensures answer { Answers vm.old.seat.me.0.vm self.old.gc.seat.me.0.gc
-            (numbers roots.old) result }
-        ensures flips { IsFlip result (sides_seen vm.old.seat.me.0 self.old.gc.seat.me.0)
-            (sides_seen vm.new.seat.me.0 self.new.gc.seat.me.0) roots.old roots.new }
-        ensures parts { result ≡ Ok tt → (vm.new.seat.me.0.vm ≡ vm_after
-            vm.old.seat.me.0.vm self.old.gc.seat.me.0.gc (CycleStore (numbers roots.old)))
-            × (self.new.gc.seat.me.0.gc ≡ gc_after self.old.gc.seat.me.0.gc
-            vm.old.seat.me.0.vm (CycleStore (numbers roots.old))) }
-        ensures knows { result ≡ Ok tt → knows_open self.new.gc.seat.me.0.gc ≡ false }
-        ensures exact { result ≡ Ok tt → vm.old.seat.me.0.vm.stored ≡ false
-            → NameTheSame self.old.gc.seat.me.0.gc.handed (numbers roots.old)
-            → IsExact (heap_of vm.old.seat.me.0.vm)
-            (heap_of vm.new.seat.me.0.vm) roots.old roots.new }
-        ensures kept { (why : Unready) → result ≡ Err why
-            → (vm.new.seat.me.0.vm ≡ vm.old.seat.me.0.vm)
-            × (self.new.gc.seat.me.0.gc ≡ self.old.gc.seat.me.0.gc) }
-        ensures same { (self.new.gc.seat.table_id ≡ self.old.gc.seat.table_id)
-            × (vm.new.seat.table_id ≡ vm.old.seat.table_id) }
-    {
-        join(&vm.table, &mut vm.seat, &mut self.gc.seat);
-        let flip = self.joined_try_flip(&mut vm.mirror, roots);
-        part(&vm.table, &mut vm.seat, &mut self.gc.seat);
-        flip
     }
 }

@@ -41,10 +41,10 @@ use Rattle.ps_ops_state.proofs.Lifts.{does_acts, observes_acts, controls_acts, h
 use Rattle.ps_step_outcome.specs.declared.turned.Turned.TheVariants.{Goes}
 use Rattle.ps_step_outcome.specs.Turns.{IsShownWith, TurnsWith}
 use Rattle.ps_step_outcome.proofs.Composing.{turns_over}
-use Rattle.ps_step_execute.specs.Values.{EntersAlone, operated_asks, operated_turn}
+use Rattle.ps_step_execute.specs.Values.{EntersIn, operated_asks, operated_turn, over_heap}
 use Rattle.ps_ops_sequences.specs.Asks.{copy_asks as sequence_copy_asks}
 use Rattle.ps_ops_sequences.proofs.CopyRows.{copy_counts, copy_counts_asks}
-use Rattle.ps_ops.specs.Alone.{ActsAhead, ActsAlone}
+use Rattle.ps_ops.specs.Alone.{ActsAhead, ActsAlone, ActsIn}
 use Rattle.ps_ops.specs.Joins.{copy_asks}
 use Rattle.ps_ops.specs.Operators.{asked_of, row_now}
 use Rattle.ps_ops.specs.Turns.{operator_asks}
@@ -53,13 +53,23 @@ use Rattle.ps_ops.proofs.Stepping.{goes_on}
 
 -- ---- by what it came to
 
+-- what acts in every setting acts in each
+acts_in : (setting : Lent → Lent) (operator : Operator) (came : Ahead) (old new : List Word)
+    → ActsAhead operator came old new → ActsIn setting operator came old new
+acts_in setting operator (Enters body) old new did =
+    (tt, λ l attempt good room. did.1 (setting l) attempt good room)
+acts_in setting operator Unentered old new did =
+    (tt, λ l attempt good room. did.1 (setting l) attempt good room)
+acts_in setting operator Left old new did = (did.0, tt)
+
 -- what is done by operands alone
-pub acts_ahead : (operator which : Operator) (acts : Bool) (came : Ahead) (old new : List Word)
-    → operator ≡ which → came ≡ done_ahead acts → ActsAlone which acts old new
-    → ActsAhead operator came old new
-acts_ahead operator which acts came old new same goes did =
-    subst (λ (o : Operator). ActsAhead o came old new) (sym same)
-    (subst (λ (a : Ahead). ActsAhead which a old new) (sym goes) did)
+pub acts_ahead : (heap : Heap) (operator which : Operator) (acts : Bool) (came : Ahead)
+    (old new : List Word) → operator ≡ which → came ≡ done_ahead acts
+    → ActsAlone which acts old new → ActsIn (over_heap heap) operator came old new
+acts_ahead heap operator which acts came old new same goes did =
+    acts_in (over_heap heap) operator came old new
+    (subst (λ (o : Operator). ActsAhead o came old new) (sym same)
+    (subst (λ (a : Ahead). ActsAhead which a old new) (sym goes) did))
 
 -- it enters none
 pub none_entered : (P : Type 0) (acts : Bool) (came : Ahead) → came ≡ done_ahead acts
@@ -88,25 +98,25 @@ module _ (old new : List Word) (row : List Value → Outcome (List Value)) where
   by_result operator is none (Err error) did from =
       (unchanged error (row (values_of (λ x. 0) [] old)) (λ x. 0) [] (did.agrees (λ x. 0) []), tt)
 
-  pub alone : {operator which : Operator} {acts : Bool} {came : Ahead}
+  pub alone : (heap : Heap) {operator which : Operator} {acts : Bool} {came : Ahead}
       {result : Result Unit ErrorName}
       → operator ≡ which → row_now which ≡ operand_row row → asked_of which ≡ nothing_asked
       → acts ≡ is_ok result → came ≡ done_ahead acts → Does row result old new → AreFrom old new
-      → ActsAhead operator came old new
-  alone {operator} {which} {acts} {came} {result} same is none ok goes did from =
-      acts_ahead operator which acts came old new same goes
+      → ActsIn (over_heap heap) operator came old new
+  alone heap {operator} {which} {acts} {came} {result} same is none ok goes did from =
+      acts_ahead heap operator which acts came old new same goes
       (subst (λ (b : Bool). ActsAlone which b old new) (sym ok)
       (by_result which is none result did from))
 
 -- a mark is pushed by three operators
 pub marked : {operator : Operator} {acts : Bool} {came : Ahead} {result : Result Unit ErrorName}
-    (old new : List Word)
+    (heap : Heap) (old new : List Word)
     → (operator ≡ Mark) ⊎ ((operator ≡ BeginArray) ⊎ (operator ≡ BeginDict))
     → acts ≡ is_ok result → came ≡ done_ahead acts → Does mark_row result old new
-    → AreFrom old new → ActsAhead operator came old new
-marked old new (inl is) = alone old new mark_row is refl refl
-marked old new (inr (inl is)) = alone old new mark_row is refl refl
-marked old new (inr (inr is)) = alone old new mark_row is refl refl
+    → AreFrom old new → ActsIn (over_heap heap) operator came old new
+marked heap old new (inl is) = alone old new mark_row heap is refl refl
+marked heap old new (inr (inl is)) = alone old new mark_row heap is refl refl
+marked heap old new (inr (inr is)) = alone old new mark_row heap is refl refl
 
 -- of copy where a number is the topmost operand
 module _ (old new : List Word) where
@@ -167,21 +177,22 @@ module _ (old new : List Word) where
       subst (λ (b : Bool). ActsAlone Copy b old new) (sym ok)
       (by_number top first number is there result did from)
 
-  pub copied_alone : (operator : Operator) (acts : Bool) (came : Ahead) → operator ≡ Copy
-      → came ≡ done_ahead acts → ActsAlone Copy acts old new → ActsAhead operator came old new
-  copied_alone operator acts came same goes did =
-      acts_ahead operator Copy acts came old new same goes did
+  pub copied_alone : (heap : Heap) (operator : Operator) (acts : Bool) (came : Ahead) → operator ≡ Copy
+      → came ≡ done_ahead acts → ActsAlone Copy acts old new
+      → ActsIn (over_heap heap) operator came old new
+  copied_alone heap operator acts came same goes did =
+      acts_ahead heap operator Copy acts came old new same goes did
 
 -- ---- operators that read no memory here
 
 -- those that did their row whatever the memory
-pub alone_over : (old new : List Word) (row : Store → List Value → Outcome (List Value))
+pub alone_over : (heap : Heap) (old new : List Word) (row : Store → List Value → Outcome (List Value))
     {operator which : Operator} {acts : Bool} {came : Ahead} → operator ≡ which
     → row_now which ≡ reading_row row → asked_of which ≡ nothing_asked → came ≡ done_ahead acts
     → (acts ≡ true → (h : Heap) → Observes row (Ok tt) h old new) → (acts ≡ false → new ≡ old)
-    → AreFrom old new → ActsAhead operator came old new
-alone_over old new row {operator} {which} {acts} {came} same is none goes done kept from =
-    acts_ahead operator which acts came old new same goes (by acts done kept)
+    → AreFrom old new → ActsIn (over_heap heap) operator came old new
+alone_over heap old new row {operator} {which} {acts} {came} same is none goes done kept from =
+    acts_ahead heap operator which acts came old new same goes (by acts done kept)
   where
     by : (acts : Bool) → (acts ≡ true → (h : Heap) → Observes row (Ok tt) h old new)
         → (acts ≡ false → new ≡ old) → ActsAlone which acts old new
@@ -198,19 +209,43 @@ alone_over old new row {operator} {which} {acts} {came} same is none goes done k
     )
     by false done kept = (kept refl, tt)
 
+-- ---- operators that read the memory
+
+pub read : (heap : Heap) (old new : List Word) {operator which : Operator} {acts : Bool}
+    {came : Ahead} → operator ≡ which → came ≡ done_ahead acts
+    → (acts ≡ true → (l : Lent) (attempt : Attempt)
+    → IsGood (record (over_heap heap l) { operands = old })
+    → Acts (asked_of which) (row_now which) attempt (Ok tt)
+    (record (over_heap heap l) { operands = old }) (record (over_heap heap l) { operands = new }))
+    → (acts ≡ false → new ≡ old) → ActsIn (over_heap heap) operator came old new
+read heap old new {operator} {which} {acts} {came} same goes done kept =
+    subst (λ (o : Operator). ActsIn (over_heap heap) o came old new) (sym same)
+    (subst (λ (a : Ahead). ActsIn (over_heap heap) which a old new) (sym goes) (by acts done kept))
+  where
+    by : (acts : Bool) → (acts ≡ true → (l : Lent) (attempt : Attempt)
+        → IsGood (record (over_heap heap l) { operands = old })
+        → Acts (asked_of which) (row_now which) attempt (Ok tt)
+        (record (over_heap heap l) { operands = old })
+        (record (over_heap heap l) { operands = new }))
+        → (acts ≡ false → new ≡ old)
+        → ActsIn (over_heap heap) which (done_ahead acts) old new
+    by true done kept = (tt, λ l attempt good room. done refl l attempt good)
+    by false done kept = (kept refl, tt)
+
 -- ---- operators that enter a procedure
 
 -- those that did their row over every frames
-pub ahead : {operator which : Operator} (row : List Value → Scene → Outcome Scene)
+pub ahead : {operator which : Operator} (heap : Heap) (row : List Value → Scene → Outcome Scene)
     (came : Ahead) (old new : List Word) → operator ≡ which
     → row_now which ≡ scene_row (scene_effect row) → asked_of which ≡ nothing_asked
     → OnLeft came (new ≡ old)
     → ((h : Heap) (size : ℕ) (frames : List Frame) → HasRoom 1 came frames
     → IsReadyFor h size (stacks old frames)
     → ControlsAhead row came h size (stacks old frames) (stacks new frames))
-    → ActsAhead operator came old new
-ahead {operator} {which} row came old new same is none kept did =
-    subst (λ (o : Operator). ActsAhead o came old new) (sym same) (by came kept did)
+    → ActsIn (over_heap heap) operator came old new
+ahead {operator} {which} heap row came old new same is none kept did =
+    acts_in (over_heap heap) operator came old new
+    (subst (λ (o : Operator). ActsAhead o came old new) (sym same) (by came kept did))
   where
     acted : (l : Lent) (attempt : Attempt) (frames : List Frame)
         → IsGood (record l { operands = old })
@@ -257,19 +292,21 @@ stepped operator attempt before after acts =
     (Ok Goes) before after (λ s held. held.shown) (λ s held. refl) (λ s held. refl)
     (goes_on operator attempt before after acts)
 
-pub enters_alone : (operator : Operator) (old new : List Word) (came : Ahead)
-    → ActsAhead operator came old new
-    → EntersAlone [] (operated_asks operator_asks operator) (operated_turn operator) came old new
-enters_alone operator old new (Enters body) acts = (
+pub enters_in : (setting : Lent → Lent) (operator : Operator) (old new : List Word) (came : Ahead)
+    → ActsIn setting operator came old new
+    → EntersIn setting [] (operated_asks operator_asks operator) (operated_turn operator) came old
+    new
+enters_in setting operator old new (Enters body) acts = (
   tt,
   λ l attempt good none room.
-      stepped operator attempt (record l { operands = old })
-      (record l { operands = new; frames = Procedure body ∷ l.frames }) (acts.1 l attempt good room),
-)
-enters_alone operator old new Unentered acts = (
-  tt,
-  λ l attempt good none room.
-      stepped operator attempt (record l { operands = old }) (record l { operands = new })
+      stepped operator attempt (record (setting l) { operands = old })
+      (record (setting l) { operands = new; frames = Procedure body ∷ (setting l).frames })
       (acts.1 l attempt good room),
 )
-enters_alone operator old new Left acts = (acts.0, tt)
+enters_in setting operator old new Unentered acts = (
+  tt,
+  λ l attempt good none room.
+      stepped operator attempt (record (setting l) { operands = old })
+      (record (setting l) { operands = new }) (acts.1 l attempt good room),
+)
+enters_in setting operator old new Left acts = (acts.0, tt)

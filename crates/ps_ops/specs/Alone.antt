@@ -15,15 +15,19 @@ use Rattle.ps_step_execute.specs.declared.under.Under.{Under}
 use Rattle.ps_step_execute.specs.declared.under.Under.TheVariants as variants
 use Rattle.ps_ops.specs.Operators.{asked_of, row_now}
 
--- whatever else is lent and however it is tried it acts and raises no error, once the frame is
--- pushed
--- of the procedure that it enters, if that has room; or nothing has changed
+-- whatever else is lent in this setting and however it is tried it acts and raises no error, once
+-- the frame is pushed of the procedure that it enters, if that has room; or nothing has changed
+abbrev pub ActsIn : (setting : Lent → Lent) → Operator → Ahead → (old new : List Word) → Type 0
+ActsIn setting operator came old new = OnLeft came (new ≡ old)
+    × OnDone came ((l : Lent) (attempt : Attempt) → IsGood (record (setting l) { operands = old })
+    → HasRoom 1 came (setting l).frames
+    → Acts (asked_of operator) (row_now operator) attempt (Ok tt)
+    (record (setting l) { operands = old })
+    (record (setting l) { operands = new; frames = frames_ahead came (setting l).frames }))
+
+-- in every setting
 abbrev pub ActsAhead : Operator → Ahead → (old new : List Word) → Type 0
-ActsAhead operator came old new = OnLeft came (new ≡ old)
-    × OnDone came ((l : Lent) (attempt : Attempt) → IsGood (record l { operands = old })
-    → HasRoom 1 came l.frames
-    → Acts (asked_of operator) (row_now operator) attempt (Ok tt) (record l { operands = old })
-    (record l { operands = new; frames = frames_ahead came l.frames }))
+ActsAhead operator came old new = ActsIn (λ l. l) operator came old new
 
 -- by operands alone: it acts, or nothing has changed
 abbrev pub ActsAlone : Operator → (acts : Bool) → (old new : List Word) → Type 0

@@ -23,10 +23,15 @@ pub struct Operators;
 impl Operate for Operators {
     ghost asks = { operator_asks };
 
-    /// One on operands alone, or one that enters a procedure.
+    /// One on operands alone, one that reads, or one that enters a procedure.
     #[inline(always)]
-    fn operate_ahead(operator: Operator, operands: &mut Operands, may_enter: bool) -> Ahead {
-        ahead::operate_ahead(operator, operands, may_enter)
+    fn operate_ahead<M: Memory>(
+        operator: Operator,
+        operands: &mut Operands,
+        memory: &mut M,
+        may_enter: bool,
+    ) -> Ahead {
+        ahead::operate_ahead(operator, operands, memory, may_enter)
     }
 
     /// One that programs call often.

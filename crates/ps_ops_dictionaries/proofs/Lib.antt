@@ -14,3 +14,4 @@ pub mod Gathering
 pub mod Counted
 pub mod Ending
 pub mod Pairing
+pub mod Quickly

@@ -142,6 +142,7 @@ pub fn store<M: Memory>(
     ensures acts { Acts store_asks (looking_row rows.store_row) attempt result
         (lent_of M.heap M.grants context.old runtime.old)
         (lent_of M.heap M.grants context.new runtime.new) }
+    ensures frames { context.new.frames ≡ context.old.frames }
 {
     let Some((value, key)) = context.operands.top_two() else {
         return Err(Break::Raises(ErrorName::StackUnderflow));

@@ -1,17 +1,19 @@
 //! The operators that look for a key (PLRM2, 8 'Operators': Dictionary).
 
-ghost use Rattle.std.specs.Prelude.{◌≡◌, Some};
+ghost use Rattle.std.specs.Prelude.{◌≡◌, Some, Ok, true, false};
 ghost use Rattle.ps_language.specs.Rows.{looking_row, naming_row};
 ghost use Rattle.ps_language.specs.RowsDictionaries as rows;
 ghost use Rattle.ps_stacks.specs.Tops.{first_two_of};
 ghost use Rattle.ps_word.specs.Format.{content_in};
 ghost use Rattle.ps_word.specs.Readers as readers;
 ghost use Rattle.ps_ops_state.specs.Acts.{Acts, nothing_asked};
-ghost use Rattle.ps_ops_state.specs.Lent.{lent_of, IsGood};
+ghost use Rattle.ps_mem.specs.Shows.{IsReady};
+ghost use Rattle.ps_ops_state.specs.Lent.{lent_of, IsGood, Lent};
 
 use ps_dict::dictionaries::access;
 use ps_language::errors::ErrorName;
 use ps_mem::Memory;
+use ps_ops_operands::Operands;
 use ps_ops_operands::access::is_readable;
 use ps_ops_operands::plain::boolean;
 use ps_ops_state::breaks::Break;
@@ -95,6 +97,41 @@ pub fn get_from_dictionary<M: Memory>(
     }
 }
 
+/// `D k get x` of a dictionary whose key is no string, where it raises no error. Else nothing has
+/// changed, and the answer is no.
+#[inline(never)]
+pub fn get_value_quickly<M: Memory>(operands: &mut Operands, memory: &mut M) -> bool
+    requires ready { IsReady (M.heap memory.old) operands.old }
+    ensures heap { M.heap memory.new ≡ M.heap memory.old }
+    ensures grants { M.grants memory.new ≡ M.grants memory.old }
+    ensures same { result ≡ false → operands.new ≡ operands.old }
+    ensures acts { result ≡ true → (l : Lent) (attempt : Attempt)
+        → IsGood (record l { heap = M.heap memory.old; operands = operands.old })
+        → Acts nothing_asked (naming_row rows.get_row) attempt (Ok tt)
+        (record l { heap = M.heap memory.old; operands = operands.old })
+        (record l { heap = M.heap memory.old; operands = operands.new }) }
+{
+    let Some((key, dictionary)) = operands.top_two() else {
+        return false;
+    };
+    let Some(address) = dictionary.as_dictionary() else {
+        return false;
+    };
+    if is_null(key) || key.as_text().is_some() {
+        return false;
+    }
+    if !is_readable(access(memory, address)) {
+        return false;
+    }
+    match find_in(memory, address, Some(key)) {
+        Some(value) => {
+            operands.replace(2, value);
+            true
+        }
+        None => false,
+    }
+}
+
 /// `k load x`: the value of a key in the topmost dictionary that has it.
 ///
 /// Raises `stackunderflow`, `typecheck`, `invalidaccess`, and `undefined` where none has it.
@@ -137,6 +174,7 @@ pub fn where_key<M: Memory>(context: &mut Context, runtime: &mut Runtime<M>) -> 
         result
         (lent_of M.heap M.grants context.old runtime.old)
         (lent_of M.heap M.grants context.new runtime.new) }
+    ensures frames { context.new.frames ≡ context.old.frames }
 {
     let Some(key) = context.operands.top() else {
         return Err(Break::Raises(ErrorName::StackUnderflow));

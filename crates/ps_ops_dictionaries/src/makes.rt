@@ -92,6 +92,7 @@ pub fn dict<M: Memory>(
     ensures acts { Acts nothing_asked (changing_row rows.dict_row) attempt result
         (lent_of M.heap M.grants context.old runtime.old)
         (lent_of M.heap M.grants context.new runtime.new) }
+    ensures frames { context.new.frames ≡ context.old.frames }
 {
     tried(make_empty(
         &mut context.operands,

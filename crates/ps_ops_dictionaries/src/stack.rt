@@ -89,6 +89,7 @@ pub fn currentdict<M: Memory>(context: &mut Context, runtime: &mut Runtime<M>) -
         attempt
         result (lent_of M.heap M.grants context.old runtime.old)
         (lent_of M.heap M.grants context.new runtime.new) }
+    ensures frames { context.new.frames ≡ context.old.frames }
 {
     let Some(word) = context.dictionaries.top() else {
         return Err(Break::Raises(ErrorName::DictStackUnderflow));

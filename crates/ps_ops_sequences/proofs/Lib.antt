@@ -25,3 +25,4 @@ pub mod CopyRows
 pub mod ReduceRows
 pub mod Searching
 pub mod ArrayPuts
+pub mod Quickly

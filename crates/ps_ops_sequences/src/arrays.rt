@@ -1,6 +1,6 @@
 //! The operators that read arrays (PLRM2, 8 'Operators': Array).
 
-ghost use Rattle.std.specs.Prelude.{◌≡◌, ◌+◌, ◌<◌, ◌≤◌, ◌++◌, length, reverse, slice_range};
+ghost use Rattle.std.specs.Prelude.{◌≡◌, ◌+◌, ◌<◌, ◌≤◌, ◌++◌, IsErr, length, reverse, slice_range};
 ghost use Rattle.ps_language.specs.Limits.{operand_limit};
 ghost use Rattle.ps_language.specs.RowsSequences.{aload_row};
 ghost use Rattle.ps_mem.specs.Heap.{fields_at};
@@ -30,6 +30,7 @@ pub fn get<M: Memory>(operands: &mut Operands, memory: &mut M) -> Result<(), Err
     ensures heap { M.heap memory.new ≡ M.heap memory.old }
     ensures grants { M.grants memory.new ≡ M.grants memory.old }
     ensures does { Observes array_get_row result (M.heap memory.old) operands.old operands.new }
+    ensures unread { IsErr result → operands.new ≡ operands.old }
     ensures ready { IsReady (M.heap memory.old) operands.new }
 {
     let Some((key, array)) = operands.top_two() else {

@@ -27,9 +27,10 @@ pub fn putinterval<M: Memory>(
     attempt: Attempt,
 ) -> Result<(), Break>
     requires good { IsGood (lent_of M.heap M.grants context.old runtime.old) }
-    ensures { Acts putinterval_asks (changing_row putinterval_row) attempt result
+    ensures acts { Acts putinterval_asks (changing_row putinterval_row) attempt result
         (lent_of M.heap M.grants context.old runtime.old)
         (lent_of M.heap M.grants context.new runtime.new) }
+    ensures frames { context.new.frames ≡ context.old.frames }
 {
     let Some((source, key, target)) = context.operands.top_three() else {
         return Err(Break::Raises(ErrorName::StackUnderflow));

@@ -20,6 +20,7 @@ pub fn getinterval<M: Memory>(context: &mut Context, runtime: &mut Runtime<M>) -
         result
         (lent_of M.heap M.grants context.old runtime.old)
         (lent_of M.heap M.grants context.new runtime.new) }
+    ensures frames { context.new.frames ≡ context.old.frames }
 {
     if is_string_at(&context.operands, 2) {
         made(strings::getinterval(&mut context.operands, &mut runtime.memory))

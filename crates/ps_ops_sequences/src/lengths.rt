@@ -1,6 +1,6 @@
 //! Lengths (PLRM2, 8 'length').
 
-ghost use Rattle.std.specs.Prelude.{◌≡◌, ◌<◌, ◌^◌, length, option_map, IfSome};
+ghost use Rattle.std.specs.Prelude.{◌≡◌, ◌<◌, ◌^◌, true, false, Ok, length, option_map, IfSome};
 ghost use Rattle.ps_language.specs.Access as language;
 ghost use Rattle.ps_language.specs.Rows.{reading_row};
 ghost use Rattle.ps_language.specs.RowsSequences.{length_of, length_row};
@@ -9,7 +9,7 @@ ghost use Rattle.ps_mem.specs.Heap.{birth_at};
 ghost use Rattle.ps_mem.specs.Meaning.{text_of_name, value_of};
 ghost use Rattle.ps_mem.specs.Shows.{IsSound, IsValue, Shows};
 ghost use Rattle.ps_ops_state.specs.Acts.{Acts, nothing_asked};
-ghost use Rattle.ps_ops_state.specs.Lent.{lent_of, IsGood};
+ghost use Rattle.ps_ops_state.specs.Lent.{lent_of, IsGood, Lent};
 
 use ps_dict::dictionaries;
 use ps_language::access::Access;
@@ -17,7 +17,7 @@ use ps_language::errors::ErrorName;
 use ps_mem::Memory;
 use ps_names::{NameId, Names};
 use ps_ops_operands::access::is_readable;
-use ps_ops_operands::plain;
+use ps_ops_operands::{Operands, plain};
 use ps_ops_state::breaks::Break;
 use ps_ops_state::lent::{Attempt, Context, Runtime};
 use ps_word::words::Word;
@@ -56,6 +56,31 @@ fn measure<M: Memory>(memory: &mut M, names: &Names, word: Word) -> Option<(u32,
     };
     let count = dictionaries::length(memory, address);
     Some((count, dictionaries::access(memory, address)))
+}
+
+/// `x length n` of an array or a string, where it raises no error. Else nothing has changed, and the
+/// answer is no.
+#[inline(never)]
+pub fn length_quickly(operands: &mut Operands) -> bool
+    ensures same { result ≡ false → operands.new ≡ operands.old }
+    ensures acts { result ≡ true → (l : Lent) (attempt : Attempt)
+        → IsGood (record l { operands = operands.old })
+        → Acts nothing_asked (reading_row length_row) attempt (Ok tt)
+        (record l { operands = operands.old })
+        (record l { operands = operands.new }) }
+{
+    let Some(top) = operands.top() else {
+        return false;
+    };
+    let Some(part) = top.as_part() else {
+        return false;
+    };
+    if !is_readable(part.access) {
+        return false;
+    }
+    let count = part.length as u32;
+    operands.replace(1, plain::integer(count as i32));
+    true
 }
 
 /// `x length n`: of an array, a string, a dictionary or a name. Raises `stackunderflow`,

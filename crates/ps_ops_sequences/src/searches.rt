@@ -1,5 +1,6 @@
 //! Strings that are looked for in others (PLRM2, 8 'search').
 
+ghost use Rattle.std.specs.Prelude.{◌≡◌};
 ghost use Rattle.ps_language.specs.Rows.{reading_row};
 ghost use Rattle.ps_language.specs.RowsSequences.{search_row};
 ghost use Rattle.ps_ops_state.specs.Acts.{Acts};
@@ -19,6 +20,7 @@ pub fn search<M: Memory>(context: &mut Context, runtime: &mut Runtime<M>) -> Res
     ensures acts { (attempt : Attempt) → Acts search_asks (reading_row search_row) attempt result
         (lent_of M.heap M.grants context.old runtime.old)
         (lent_of M.heap M.grants context.new runtime.new) }
+    ensures frames { context.new.frames ≡ context.old.frames }
 {
     let scratch = &mut runtime.shared.scratch;
     tried(string_searches::search(

@@ -1,7 +1,6 @@
 //! The operators that read strings (PLRM2, 8 'Operators': String).
 
-ghost use Rattle.std.specs.Prelude.{◌≡◌};
-ghost use Rattle.ps_mem.specs.Heap.{Heap};
+ghost use Rattle.std.specs.Prelude.{◌≡◌, IsErr};
 ghost use Rattle.ps_mem.specs.Shows.{IsReady};
 ghost use Rattle.ps_ops_operands.specs.Changes.{Observes};
 ghost use Rattle.ps_ops_sequences.specs.StringRows as rows;
@@ -25,6 +24,7 @@ pub fn get<M: Memory>(operands: &mut Operands, memory: &mut M) -> Result<(), Err
     ensures heap { M.heap memory.new ≡ M.heap memory.old }
     ensures grants { M.grants memory.new ≡ M.grants memory.old }
     ensures does { Observes string_get_row result (M.heap memory.old) operands.old operands.new }
+    ensures unread { IsErr result → operands.new ≡ operands.old }
     ensures ready { IsReady (M.heap memory.old) operands.new }
 {
     let Some((key, string)) = operands.top_two() else {

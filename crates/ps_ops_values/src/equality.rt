@@ -113,6 +113,7 @@ pub fn equality<M: Memory>(
         (reading_row (relations.equality_row_as wanted)) attempt result
         (lent_of M.heap M.grants context.old runtime.old)
         (lent_of M.heap M.grants context.new runtime.new) }
+    ensures frames { context.new.frames ≡ context.old.frames }
 {
     let Some((right, left)) = context.operands.top_two() else {
         return Err(Break::Raises(ErrorName::StackUnderflow));

@@ -40,6 +40,7 @@ pub fn cvn<M: Memory>(context: &mut Context, runtime: &mut Runtime<M>) -> Result
     ensures acts { (attempt : Attempt) → Acts nothing_asked (naming_row cvn_row) attempt result
         (lent_of M.heap M.grants context.old runtime.old)
         (lent_of M.heap M.grants context.new runtime.new) }
+    ensures frames { context.new.frames ≡ context.old.frames }
 {
     let Some(string) = context.operands.top() else {
         return Err(Break::Raises(ErrorName::StackUnderflow));

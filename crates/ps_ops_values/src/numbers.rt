@@ -92,6 +92,7 @@ pub fn cvi<M: Memory>(context: &mut Context, runtime: &mut Runtime<M>) -> Result
         result
         (lent_of M.heap M.grants context.old runtime.old)
         (lent_of M.heap M.grants context.new runtime.new) }
+    ensures frames { context.new.frames ≡ context.old.frames }
 {
     let Some(word) = context.operands.top() else {
         return Err(Break::Raises(ErrorName::StackUnderflow));

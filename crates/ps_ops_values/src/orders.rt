@@ -90,6 +90,7 @@ pub fn order<M: Memory>(
         (reading_row (relations.order_row_as relation)) attempt result
         (lent_of M.heap M.grants context.old runtime.old)
         (lent_of M.heap M.grants context.new runtime.new) }
+    ensures frames { context.new.frames ≡ context.old.frames }
 {
     let Some((right, left)) = context.operands.top_two() else {
         return Err(Break::Raises(ErrorName::StackUnderflow));

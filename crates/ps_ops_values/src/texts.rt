@@ -165,9 +165,10 @@ pub fn cvs<M: Memory>(
     attempt: Attempt,
 ) -> Result<(), Break>
     requires good { IsGood (lent_of M.heap M.grants context.old runtime.old) }
-    ensures { Acts cvs_asks (changing_row cvs_row) attempt result
+    ensures acts { Acts cvs_asks (changing_row cvs_row) attempt result
         (lent_of M.heap M.grants context.old runtime.old)
         (lent_of M.heap M.grants context.new runtime.new) }
+    ensures frames { context.new.frames ≡ context.old.frames }
 {
     let Some((target, word)) = context.operands.top_two() else {
         return Err(Break::Raises(ErrorName::StackUnderflow));

@@ -16,7 +16,7 @@ use std::thread;
 use std::thread::Threads;
 
 /// The actions of the collector between two looks whether it is called.
-const ACTIONS: u32 = 1024;
+const ACTIONS: u32 = 128;
 
 /// What the threads of a run share.
 #[derive(Drop)]

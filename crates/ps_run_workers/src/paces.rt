@@ -4,7 +4,7 @@
 
 /// The share of what was free at a cycle's opening by which the collector must be ahead before
 /// who waited goes on: else each turn would wait again.
-const LEAD: u32 = 32;
+const LEAD: u32 = 512;
 
 /// The words of the space, as far as they tell when a cycle is opened, and how fast it is copied.
 #[derive(Clone, Copy, Debug)]

@@ -211,7 +211,7 @@ literal_does asks heap dictionaries names token word old new is literal pushed =
     (own_treats asks heap dictionaries word
     (λ births names. literal_unmade word births names literal)
     (λ births names. literal_unnamed word births names literal))
-    (literal_treated asks word word ahead.Goes old new literal true refl (pushed word)))
+    (literal_treated asks word word heap ahead.Goes old new literal true refl (pushed word)))
 
 -- ---- a number or a name
 

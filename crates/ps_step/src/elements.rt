@@ -1,10 +1,12 @@
 //! Elements of a procedure one after another, as far as operands and frames alone do them (PLRM2,
 //! 3.5).
 
-ghost use Rattle.std.specs.Prelude.{◌≡◌, ◌+◌, ◌-◌, ◌<◌, ◌≤◌, ◌^◌};
+ghost use Rattle.std.specs.Prelude.{◌≡◌, ◌+◌, ◌-◌, ◌<◌, ◌≤◌, ◌^◌, List};
 ghost use Rattle.ps_ops_control.specs.Frames.{IsHeld};
-ghost use Rattle.ps_mem.specs.Shows.{AreValues, IsSound};
-ghost use Rattle.ps_step.specs.Elements.{DoesFirst, IsBehind};
+ghost use Rattle.ps_ops_control.specs.declared.frames.Frame.{Frame};
+ghost use Rattle.ps_ops_state.specs.Lent.{IsGood, Lent};
+ghost use Rattle.ps_step_frames.specs.Steps.{frames_after};
+ghost use Rattle.ps_step.specs.Elements.{DoesFirst, IsBehind, stacked};
 
 use ps_mem::Memory;
 use ps_ops_operands::Operands;
@@ -37,8 +39,8 @@ pub fn do_first<O: Operate, M: Memory>(
     operands: &mut Operands,
     memory: &mut M,
 ) -> (u16, Fast<Element>)
-    requires sound { IsSound (M.heap memory.old) }
-    requires dictionaries { AreValues (M.heap memory.old) dictionaries.now }
+    requires good { (l : Lent) × (below : List Frame) × IsGood (stacked (M.heap memory.old)
+        dictionaries.now operands.old (frames_after 0 rest below) l) }
     requires part { IsHeld (M.heap memory.old) rest }
     requires most { most ≤ rest.length }
     ensures heap { M.heap memory.new ≡ M.heap memory.old }

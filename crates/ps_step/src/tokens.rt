@@ -3,8 +3,8 @@
 ghost use Rattle.std.specs.Prelude.{◌≡◌, Some, Ok, ⊤, IsNone, List, length};
 ghost use Rattle.ps_mem.specs.Heap.{Heap};
 ghost use Rattle.ps_word.specs.declared.words.Word.{Word};
-ghost use Rattle.ps_step_execute.specs.Values.{Asks};
-ghost use Rattle.ps_mem.specs.Shows.{AreValues, IsSound};
+ghost use Rattle.ps_step_execute.specs.Values.{Asks, among};
+ghost use Rattle.ps_ops_state.specs.Lent.{IsGood, Lent};
 ghost use Rattle.ps_ops_control.specs.Frames.{IsSourceAt};
 ghost use Rattle.ps_scan.specs.Shown.{token_of};
 ghost use Rattle.ps_step_tokens.specs.Short.{IsShort};
@@ -37,8 +37,8 @@ fn do_ahead<O: Operate, M: Memory>(
     operands: &mut Operands,
     memory: &mut M,
 ) -> Result<usize, Option<(Element, usize)>>
-    requires sound { IsSound (M.heap memory.old) }
-    requires dictionaries { AreValues (M.heap memory.old) dictionaries.now }
+    requires good { (l : Lent) × IsGood (record (among (M.heap memory.old) dictionaries.now l)
+        { operands = operands.old }) }
     requires short { IsShort (token_of text.now token.now.kind) }
     ensures heap { M.heap memory.new ≡ M.heap memory.old }
     ensures grants { M.grants memory.new ≡ M.grants memory.old }
@@ -100,8 +100,8 @@ pub fn word_ahead<O: Operate, M: Memory>(
     operands: &mut Operands,
     memory: &mut M,
 ) -> Result<usize, Option<(Element, usize)>>
-    requires sound { IsSound (M.heap memory.old) }
-    requires dictionaries { AreValues (M.heap memory.old) dictionaries.now }
+    requires good { (l : Lent) × IsGood (record (among (M.heap memory.old) dictionaries.now l)
+        { operands = operands.old }) }
     requires place { IsSourceAt (M.heap memory.old) (length shared.now.program.now) cursor.source
         cursor.at }
     requires window { IsWindow (M.heap memory.old) cursor.source window.now }

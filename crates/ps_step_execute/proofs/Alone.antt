@@ -30,24 +30,41 @@ use Rattle.ps_ops_operands.specs.declared.failure.NotMade.{NotMade as Reason}
 use Rattle.ps_step_execute.specs.declared.quick.Fast.{Fast}
 use Rattle.ps_step_execute.specs.declared.quick.Fast.TheVariants.{Enters, Treats, Slow}
 use Rattle.ps_step_execute.specs.Quick.{IsTreated, TreatsAs, ComesTo, came_or}
-use Rattle.ps_step_execute.specs.Values.{meaning, EntersIn, EntersAlone, GoesAlone, among, pushed_turn, operated_turn}
+use Rattle.ps_step_execute.specs.Values.{meaning, EntersIn, EntersAlone, GoesAlone, among, over_heap, pushed_turn, operated_turn}
 use Rattle.ps_step_execute.specs.Values.{treated_turn, done_turn, Asks, operated_asks, treated_asks, executed_asks}
 use Rattle.ps_step_execute.proofs.Executing.{operator_acts, treated_literal, treated_executable, procedure_pushed, found_as}
 use Rattle.ps_step_execute.proofs.Executing.{finds_value}
 
 -- the same turn, said otherwise
-pub enters_as : (some words : List Word) (asked other : Lent → Store → Asked)
+pub enters_as : (setting : Lent → Lent) (some words : List Word) (asked other : Lent → Store → Asked)
     (done turn : Lent → Store → Turn)
     → ((heap : Heap) → AreValues heap words → AreValues heap some)
     → ((l new : Lent) (attempt : Attempt) → TurnsWith some [] asked done attempt (Ok Goes) l new
     → TurnsWith words [] other turn attempt (Ok Goes) l new)
-    → (came : Ahead) (old new : List Word) → EntersAlone some asked done came old new
-    → EntersAlone words other turn came old new
-enters_as some words asked other done turn fewer same (ahead.Enters body) old new alone =
-    (tt, λ l attempt good values room. same _ _ attempt (alone.1 l attempt good (fewer l.heap values) room))
-enters_as some words asked other done turn fewer same ahead.Goes old new alone =
-    (tt, λ l attempt good values room. same _ _ attempt (alone.1 l attempt good (fewer l.heap values) room))
-enters_as some words asked other done turn fewer same ahead.Left old new alone = (alone.0, tt)
+    → (came : Ahead) (old new : List Word) → EntersIn setting some asked done came old new
+    → EntersIn setting words other turn came old new
+enters_as setting some words asked other done turn fewer same (ahead.Enters body) old new alone = (
+  tt,
+  λ l attempt good values room.
+      same _ _ attempt (alone.1 l attempt good (fewer (setting l).heap values) room),
+)
+enters_as setting some words asked other done turn fewer same ahead.Goes old new alone = (
+  tt,
+  λ l attempt good values room.
+      same _ _ attempt (alone.1 l attempt good (fewer (setting l).heap values) room),
+)
+enters_as setting some words asked other done turn fewer same ahead.Left old new alone =
+    (alone.0, tt)
+
+-- what goes in every setting goes in each
+pub alone_in : (setting : Lent → Lent) (words : List Word) (asked : Lent → Store → Asked)
+    (turn : Lent → Store → Turn) (came : Ahead) (old new : List Word)
+    → EntersAlone words asked turn came old new → EntersIn setting words asked turn came old new
+alone_in setting words asked turn (ahead.Enters body) old new alone =
+    (tt, λ l attempt good values room. alone.1 (setting l) attempt good values room)
+alone_in setting words asked turn ahead.Goes old new alone =
+    (tt, λ l attempt good values room. alone.1 (setting l) attempt good values room)
+alone_in setting words asked turn ahead.Left old new alone = (alone.0, tt)
 
 -- what goes by operands alone enters none
 pub goes_enters : (words : List Word) (asked : Lent → Store → Asked) (turn : Lent → Store → Turn)
@@ -73,25 +90,31 @@ module _ (asks : Asks) (command word : Word) where
       (operator_acts asks command word l attempt (Ok Goes) new operator content
       (turns_shown [] [] _ _ attempt (Ok Goes) l new (λ s shown. tt) (λ s shown. tt) turns))
 
-module _ (asks : Asks) (command word : Word) (came : Ahead) (old new : List Word) where
-  abbrev Treated : Type 0
-  Treated = EntersAlone (word ∷ command ∷ []) (treated_asks asks word) (treated_turn command word)
-      came old new
+module _ (asks : Asks) (command word : Word) (heap : Heap) (came : Ahead) (old new : List Word)
+  where
+    abbrev Treated : Type 0
+    Treated = EntersIn (over_heap heap) (word ∷ command ∷ []) (treated_asks asks word)
+        (treated_turn command word) came old new
 
-  pub literal_treated : executable_in word.0 ≡ false → (goes : Bool) → came ≡ done_ahead goes
-      → GoesAlone (word ∷ command ∷ []) nothing_more (pushed_turn command word) goes old new
-      → Treated
-  literal_treated literal goes is pushed = enters_as _ _ _ _ _ _ (λ heap values. values)
-      (λ l new attempt turns. treated_literal asks command word l attempt (Ok Goes) new literal turns)
-      came old new (goes_enters (word ∷ command ∷ []) nothing_more (pushed_turn command word) goes came old new is
-      pushed)
+    pub literal_treated : executable_in word.0 ≡ false → (goes : Bool) → came ≡ done_ahead goes
+        → GoesAlone (word ∷ command ∷ []) nothing_more (pushed_turn command word) goes old new
+        → Treated
+    literal_treated literal goes is pushed =
+        enters_as (over_heap heap) _ _ _ _ _ _ (λ heap values. values)
+        (λ l new attempt turns. treated_literal asks command word l attempt (Ok Goes) new literal turns)
+        came old new (alone_in (over_heap heap) (word ∷ command ∷ []) nothing_more
+        (pushed_turn command word) came old new
+        (goes_enters (word ∷ command ∷ []) nothing_more (pushed_turn command word) goes came old new is
+        pushed))
 
-  pub operator_treated : (operator : Named) → executable_in word.0 ≡ true
-      → content_in word.0 ≡ Operator operator
-      → EntersAlone [] (operated_asks asks operator) (operated_turn operator) came old new → Treated
-  operator_treated operator may content = enters_as _ _ _ _ _ _ (λ heap values. tt)
-      (λ l new attempt turns.
-      treated_by_operator asks command word l new attempt operator may content turns) came old new
+    pub operator_treated : (operator : Named) → executable_in word.0 ≡ true
+        → content_in word.0 ≡ Operator operator
+        → EntersIn (over_heap heap) [] (operated_asks asks operator) (operated_turn operator) came old
+        new → Treated
+    operator_treated operator may content =
+        enters_as (over_heap heap) _ _ _ _ _ _ (λ heap values. tt)
+        (λ l new attempt turns.
+        treated_by_operator asks command word l new attempt operator may content turns) came old new
 
 -- ---- as which value an element is treated
 
@@ -194,28 +217,30 @@ module _ (asks : Asks) (heap : Heap) (dictionaries : List Word) (word : Word) wh
     pub treated_comes : (goes : Ahead) (value : Word) (came : Fast Word)
         → came ≡ came_or goes (Treats value) → IsValue heap value
         → TreatsAs asks heap dictionaries word value
-        → EntersAlone (value ∷ word ∷ []) (treated_asks asks value) (treated_turn word value) goes
-        old new
+        → EntersIn (over_heap heap) (value ∷ word ∷ []) (treated_asks asks value)
+        (treated_turn word value) goes old new
         → Comes came
     treated_comes goes value came is held treats alone =
         subst Comes (sym is)
         (comes_by goes (Treats value) (by goes alone) (λ same. (same, (held, treats))))
       where
         by : (goes : Ahead)
-            → EntersAlone (value ∷ word ∷ []) (treated_asks asks value) (treated_turn word value)
-            goes old new
+            → EntersIn (over_heap heap) (value ∷ word ∷ []) (treated_asks asks value)
+            (treated_turn word value) goes old new
             → Done_by goes
         by ahead.Goes alone = (
           tt,
           λ l attempt good values room.
               treated_done value treats (record l { operands = old }) attempt (Ok Goes) _ good
-              (alone.1 (among heap dictionaries l) attempt good (held, values.1) room),
+              (alone.1 (record l { dictionaries = dictionaries }) attempt good (held, values.1)
+              room),
         )
         by (ahead.Enters body) alone = (
           tt,
           λ l attempt good values room.
               treated_done value treats (record l { operands = old }) attempt (Ok Goes) _ good
-              (alone.1 (among heap dictionaries l) attempt good (held, values.1) room),
+              (alone.1 (record l { dictionaries = dictionaries }) attempt good (held, values.1)
+              room),
         )
         by ahead.Left alone = (alone.0, tt)
 

@@ -178,6 +178,10 @@ GoesUnder words asked turn slot Done old new =
 GoesUnder words asked turn slot Fails old new = IsUndone slot old new
 GoesUnder words asked turn slot Left old new = new ≡ old
 
+-- over this heap
+abbrev pub over_heap : Heap → Lent → Lent
+over_heap heap l = record l { heap = heap }
+
 -- over this heap and by this dictionary stack
 abbrev pub among : Heap → (dictionaries : List Word) → Lent → Lent
 among heap dictionaries l = record l { heap = heap; dictionaries = dictionaries }

@@ -4,10 +4,11 @@ ghost use Rattle.std.specs.Prelude.{◌≡◌, ◌<◌, [], IsTrue};
 ghost use Rattle.ps_language.specs.Effect.{Around, Scene};
 ghost use Rattle.ps_language.specs.declared.operators.Operator as names;
 ghost use Rattle.ps_word.specs.declared.values.Part.{Part as ThePart};
+ghost use Rattle.ps_mem.specs.Shows.{IsReady};
 ghost use Rattle.ps_ops_state.specs.Acts.{Asked, AreFew};
 ghost use Rattle.ps_ops_state.specs.Lent.{lent_of, IsGood};
 ghost use Rattle.ps_step_outcome.specs.Turns.{Turns};
-ghost use Rattle.ps_step_execute.specs.Values.{EntersAlone, GoesUnder, operated_asks, operated_turn};
+ghost use Rattle.ps_step_execute.specs.Values.{EntersIn, GoesUnder, operated_asks, operated_turn, over_heap};
 
 use crate::under::Under;
 use ps_language::operators::Operator;
@@ -23,12 +24,20 @@ pub trait Operate {
     /// What an operator asks for that the language doesn't say, in a scene and what surrounds it.
     ghost asks: { names.Operator → Around → Scene → Asked };
 
-    /// An operator on operands alone acts, where it raises no error, and so does one that enters a
-    /// procedure, up to the frame of that, where one may be entered. Else nothing has changed, as
-    /// by every other operator.
-    fn operate_ahead(operator: Operator, operands: &mut Operands, may_enter: bool) -> Ahead
-        ensures comes { EntersAlone [] (operated_asks asks operator) (operated_turn operator) result
-            operands.old operands.new }
+    /// An operator on operands alone acts, where it raises no error, and so does one that reads the
+    /// memory beside them, and one that enters a procedure, up to the frame of that, where one may
+    /// be entered. Else nothing has changed, as by every other operator. The memory stays as it is.
+    fn operate_ahead<M: Memory>(
+        operator: Operator,
+        operands: &mut Operands,
+        memory: &mut M,
+        may_enter: bool,
+    ) -> Ahead
+        requires ready { IsReady (M.heap memory.old) operands.old }
+        ensures heap { M.heap memory.new ≡ M.heap memory.old }
+        ensures grants { M.grants memory.new ≡ M.grants memory.old }
+        ensures comes { EntersIn (over_heap (M.heap memory.old)) [] (operated_asks asks operator)
+            (operated_turn operator) result operands.old operands.new }
         ensures enters { (body : ThePart) → result ≡ Ahead.Enters body → IsTrue may_enter };
 
     /// An operator that neither sees nor changes frames acts, where it raises no error and is made,

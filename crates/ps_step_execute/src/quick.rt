@@ -3,8 +3,10 @@
 
 ghost use Rattle.std.specs.Prelude.{◌≡◌, IsTrue};
 ghost use Rattle.ps_word.specs.declared.values.Part.{Part as ThePart};
-ghost use Rattle.ps_mem.specs.Shows.{AreValues, IsSound, IsValue};
+ghost use Rattle.ps_mem.specs.Shows.{IsValue};
+ghost use Rattle.ps_ops_state.specs.Lent.{IsGood, Lent};
 ghost use Rattle.ps_step_execute.specs.Quick.{ComesTo, came_or};
+ghost use Rattle.ps_step_execute.specs.Values.{among};
 
 use crate::ahead::treat_ahead;
 use crate::operates::Operate;
@@ -44,8 +46,8 @@ fn came_or(came: Ahead, left: Fast<Word>) -> Fast<Word>
 
 /// Does an element by operands and frames alone, where that raises no error: a literal value or a
 /// procedure becomes an operand, an operator acts ahead, and a name is looked up and its value
-/// treated ahead. A procedure is entered only where one may be. Else it tells as which value the
-/// element is treated. The memory stays as it is.
+/// treated ahead, over what is good for some context. A procedure is entered only where one may be.
+/// Else it tells as which value the element is treated. The memory stays as it is.
 #[inline(always)]
 pub fn do_quickly<O: Operate, M: Memory>(
     word: Word,
@@ -54,8 +56,8 @@ pub fn do_quickly<O: Operate, M: Memory>(
     memory: &mut M,
     may_enter: bool,
 ) -> Fast<Word>
-    requires sound { IsSound (M.heap memory.old) }
-    requires dictionaries { AreValues (M.heap memory.old) dictionaries.now }
+    requires good { (l : Lent) × IsGood (record (among (M.heap memory.old) dictionaries.now l)
+        { operands = operands.old }) }
     requires word { IsValue (M.heap memory.old) word }
     ensures heap { M.heap memory.new ≡ M.heap memory.old }
     ensures grants { M.grants memory.new ≡ M.grants memory.old }
@@ -68,7 +70,7 @@ pub fn do_quickly<O: Operate, M: Memory>(
         return came_or(came, Fast::Treats(word));
     }
     if let Some(operator) = word.executable_operator() {
-        let came = O::operate_ahead(operator, operands, may_enter);
+        let came = O::operate_ahead(operator, operands, memory, may_enter);
         return came_or(came, Fast::Treats(word));
     }
     // Asked for before a name: what a look-up keeps would else be kept beside a procedure.
@@ -81,7 +83,7 @@ pub fn do_quickly<O: Operate, M: Memory>(
             let Ok(Some(found)) = look_up(memory, dictionaries, Some(word)) else {
                 return Fast::Slow;
             };
-            let came = treat_ahead::<O>(found.1, operands, may_enter);
+            let came = treat_ahead::<O, M>(found.1, operands, memory, may_enter);
             came_or(came, Fast::Treats(found.1))
         }
         _ => Fast::Treats(word),

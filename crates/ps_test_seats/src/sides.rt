@@ -18,7 +18,7 @@ use ps_core_laws::sides::LoggedMemory;
 use ps_gc::{Collector, Drained, MutatorSeat, Naming};
 use ps_record::slots::Slot;
 use ps_record::{SLOTS, SPACES_START};
-use ps_table::{GcSeat, SharedSeats, VmSeat};
+use ps_table::{GcSeat, SharedSeats, VmSeat, join, part};
 use ps_word::words::Word;
 use std::alloc::{AllocError, Global};
 
@@ -141,9 +141,10 @@ impl<J: Naming> Sides<J> {
         if !arrays.memory.is_open() {
             return None;
         }
-        let flip = self
-            .collector
-            .try_flip(&mut arrays.memory.vm, arrays.words.as_mut_slice());
+        let (vm, collector) = (&mut arrays.memory.vm, &mut self.collector);
+        join(&vm.table, &mut vm.seat, &mut collector.gc.seat);
+        let flip = collector.joined_try_flip(&mut vm.mirror, arrays.words.as_mut_slice());
+        part(&vm.table, &mut vm.seat, &mut collector.gc.seat);
         if flip.is_ok() {
             self.handed.clear();
             self.in_cycle = self.collector.begin_cycle();

@@ -264,13 +264,13 @@ pub returns-in-GetInterval : goal.returns-in-GetInterval
 returns-in-GetInterval g c = named c.in-GetInterval.is refl (c.getinterval.ensures.acts _)
 
 pub returns-in-Astore : goal.returns-in-Astore
-returns-in-Astore g c = named c.in-Astore.is refl c.astore.ensures
+returns-in-Astore g c = named c.in-Astore.is refl c.astore.ensures.acts
 
 pub returns-in-Length : goal.returns-in-Length
 returns-in-Length g c = named c.in-Length.is refl (c.length.ensures.acts _)
 
 pub returns-in-PutInterval : goal.returns-in-PutInterval
-returns-in-PutInterval g c = named c.in-PutInterval.is refl c.putinterval.ensures
+returns-in-PutInterval g c = named c.in-PutInterval.is refl c.putinterval.ensures.acts
 
 pub returns-in-Forall : goal.returns-in-Forall
 returns-in-Forall g c = named c.in-Forall.is refl (c.forall.ensures.acts _)
@@ -312,7 +312,7 @@ pub returns-in-Cvn : goal.returns-in-Cvn
 returns-in-Cvn g c = named c.in-Cvn.is refl (c.cvn.ensures.acts _)
 
 pub returns-in-Cvs : goal.returns-in-Cvs
-returns-in-Cvs g c = named c.in-Cvs.is refl c.cvs.ensures
+returns-in-Cvs g c = named c.in-Cvs.is refl c.cvs.ensures.acts
 
 pub returns-in-Def : goal.returns-in-Def
 returns-in-Def g c = named c.in-Def.is refl c.def.ensures.acts

@@ -27,6 +27,7 @@ returns-in_default-as_dictionary g c =
           (c.is_readable_key.ensures _ _ ∙ c.if-not-is_readable_key.false) c.requires.good _
           c.read_key-read.ensures.key _ c.word.ensures _ place_there _ refl
           c.in_default-as_dictionary.ensures);
+      frames = refl;
     })
 
 pub put_key-requires-clause-known : goal.put_key-requires-clause-known
@@ -60,6 +61,7 @@ returns-in-Some-as_dictionary g c =
           (c.is_readable_key.ensures _ _ ∙ c.if-not-is_readable_key.false) c.requires.good _
           c.read_key-read.ensures.key _ c.word.ensures _ place_there _ refl _
           c.in-Some-as_dictionary.ensures) acts.acts);
+      frames = c.put_key.ensures.frames;
     }
 
 pub returns-in-Ok-None : goal.returns-in-Ok-None
@@ -79,6 +81,7 @@ returns-in-Ok-None g c =
           (store_nowhere _ _ _ c.in-Some.ensures (c.is_null.ensures _ _ held ∙ c.if-is_null.false)
           (c.is_readable_key.ensures _ _ ∙ c.if-not-is_readable_key.false) c.requires.good _
           c.read_key-read.ensures.key _ c.word.ensures _ place_there refl);
+      frames = refl;
     })
 
 pub returns-in-Err : goal.returns-in-Err
@@ -98,4 +101,5 @@ returns-in-Err g c =
           (store_hidden _ _ _ c.in-Some.ensures (c.is_null.ensures _ _ held ∙ c.if-is_null.false)
           (c.is_readable_key.ensures _ _ ∙ c.if-not-is_readable_key.false) c.requires.good _
           c.read_key-read.ensures.key _ c.word.ensures _ place_there _ refl);
+      frames = refl;
     })

@@ -30,6 +30,7 @@ returns-in-Err g c =
           (where_hidden _ _ c.in-Some.ensures (c.is_null.ensures _ _ held ∙ c.if-is_null.false)
           (c.is_readable_key.ensures _ _ ∙ c.if-not-is_readable_key.false) c.requires.good _
           c.read_key-sought.ensures.key _ c.word.ensures _ looked_there _ refl);
+      frames = refl;
     })
 
 pub returns-then-is_full : goal.returns-then-is_full
@@ -52,6 +53,7 @@ returns-then-is_full g c =
           (c.is_readable_key.ensures _ _ ∙ c.if-not-is_readable_key.false) c.requires.good _
           c.read_key-sought.ensures.key _ c.word.ensures _ looked_there _ refl there.0 there.1
           (grind (arith, nat_tests, c.is_full.ensures, c.if-is_full.true)));
+      frames = refl;
     })
 
 pub returns-else-is_full : goal.returns-else-is_full
@@ -86,6 +88,7 @@ returns-else-is_full g c =
           (grind (arith, nat_tests, c.is_full.ensures, c.if-is_full.false)) _
           c.boolean.ensures.value c.boolean.ensures.plain
           (λ names s shows inside. (within_there names s shows inside).0));
+      frames = refl;
     })
 
 pub returns-in-Ok : goal.returns-in-Ok
@@ -122,6 +125,7 @@ returns-in-Ok g c =
           ))
           (λ store shown. ap (λ v. v ∷ values_in heap c.args.runtime.now.shared.names (drop 1 ops))
           (c.boolean-in-Ok.ensures.value births c.args.runtime.now.shared.names));
+      frames = refl;
     })
 
 pub returns-in-Err-form_key : goal.returns-in-Err-form_key
@@ -147,4 +151,5 @@ returns-in-Err-form_key g c =
           c.read_key-sought.ensures.key _ c.word.ensures _ looked_there refl)
           c.in-Err-form_key.fault c.in-Err-form_key.ensures.did _
           (c.in-Err-form_key.ensures.unmade _ refl);
+      frames = refl;
     })

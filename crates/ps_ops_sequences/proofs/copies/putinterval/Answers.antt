@@ -11,18 +11,18 @@ use Rattle.ps_ops_sequences.proofs.Copying.{copied_acts, uncopied_acts}
 use Rattle.ps_ops_sequences.proofs.PutIntervals.{put_wrong, put_hidden, put_outside, put_copies}
 use Rattle.ps_ops_sequences.proofs.copies.putinterval.Goals as goal
 
-pub returns-in_default-pair_of : goal.returns-in_default-pair_of
-returns-in_default-pair_of g c = raised_acts _ _ _ _ c.requires.good TypeCheck
+pub returns-in_default-pair_of-clause-acts : goal.returns-in_default-pair_of-clause-acts
+returns-in_default-pair_of-clause-acts g c = raised_acts _ _ _ _ c.requires.good TypeCheck
     (put_wrong _ _ _ _ c.in-Some.ensures _ (c.in-Some-integer_of.ensures _ _)
     (c.in_default-pair_of.ensures.parts _ _))
 
-pub returns-then-not-may_copy : goal.returns-then-not-may_copy
-returns-then-not-may_copy g c = raised_acts _ _ _ _ c.requires.good InvalidAccess
+pub returns-then-not-may_copy-clause-acts : goal.returns-then-not-may_copy-clause-acts
+returns-then-not-may_copy-clause-acts g c = raised_acts _ _ _ _ c.requires.good InvalidAccess
     (put_hidden _ _ _ _ c.in-Some.ensures _ (c.in-Some-integer_of.ensures _ _)
     c.in-Some-pair_of.pair (c.in-Some-pair_of.ensures.parts _ _) (sym c.may_copy.ensures ∙ c.if-not-may_copy.true))
 
-pub returns-in_default-interval_within : goal.returns-in_default-interval_within
-returns-in_default-interval_within g c =
+pub returns-in_default-interval_within-clause-acts : goal.returns-in_default-interval_within-clause-acts
+returns-in_default-interval_within-clause-acts g c =
     let fits : SFits w32 c.in-Some-integer_of.number = search rules in
     raised_acts _ _ _ _ c.requires.good RangeCheck
     (put_outside _ _ _ _ c.in-Some.ensures _ (c.in-Some-integer_of.ensures _ _)
@@ -36,8 +36,8 @@ copy_contents-requires-clause-pair g c =
     (first_of_three_held (IsValue h) _ c.requires.good.operands _ _ _ c.in-Some.ensures)
     (third_held (IsValue h) _ c.requires.good.operands _ _ _ c.in-Some.ensures)
 
-pub returns-in-Err : goal.returns-in-Err
-returns-in-Err g c =
+pub returns-in-Err-clause-acts : goal.returns-in-Err-clause-acts
+returns-in-Err-clause-acts g c =
     let fits : SFits w32 c.in-Some-integer_of.number = search rules in
     rw c.in-Err.ensures.same (uncopied_acts _ _ _ _ _ _ _ _ _ c.requires.good
     c.in-Some-interval_within.ensures.within (c.in-Some-pair_of.ensures.from _ _)
@@ -49,8 +49,8 @@ returns-in-Err g c =
     _ _ c.copy_contents.ensures.room c.copy_contents.ensures.empty _ c.in-Err.ensures.spends
     c.in-Err.ensures.reason)
 
-pub returns : goal.returns
-returns g c =
+pub returns-clause-acts : goal.returns-clause-acts
+returns-clause-acts g c =
     let h = g.M.Memory.heap c.args.runtime.now.memory in
     let fits : SFits w32 c.in-Some-integer_of.number = search rules in
     rw c.discard.ensures (copied_acts _ _ _ _ _ _ _ _ _ c.requires.good

@@ -11,6 +11,7 @@ returns-then-is_string_at g c = record {
       (interval_of_string _ (sym c.is_string_at.ensures ∙ c.if-is_string_at.true))
       (observes_acts _ c.requires.good attempt _ _ _ _ _ refl refl c.getinterval.ensures.does
       c.getinterval.ensures.ready));
+  frames = refl;
 }
 
 pub returns-else-is_string_at : goal.returns-else-is_string_at
@@ -20,4 +21,5 @@ returns-else-is_string_at g c = record {
       (interval_of_array _ (sym c.is_string_at.ensures ∙ c.if-is_string_at.false))
       (observes_acts _ c.requires.good attempt _ _ _ _ _ refl refl
       c.getinterval-else-is_string_at.ensures.does c.getinterval-else-is_string_at.ensures.ready));
+  frames = refl;
 }

@@ -1,4 +1,5 @@
 -- A search by its own contract.
+use Rattle.std.proofs.Common.{refl}
 use Rattle.ps_ops_state.specs.Lent.{rooms_of}
 use Rattle.ps_ops_state.proofs.Meeting.{at_least-same}
 use Rattle.ps_ops_state.proofs.Alike.{came_acts}
@@ -18,4 +19,5 @@ returns g c = record {
         sought = c.search.ensures.room.1;
         words = (at_least-same (rooms_of c.args.runtime.now.shared.scratch)).words;
       }));
+  frames = refl;
 }

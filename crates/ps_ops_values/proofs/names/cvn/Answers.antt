@@ -19,6 +19,7 @@ returns-in-Err g c =
           (cvn_tail _ _ c.in-Some.ensures _ (c.in-Some-string_of.ensures.part _ _)
           (sym c.is_readable.ensures ∙ c.if-not-is_readable.false))
           c.in-Err.fault c.in-Err.ensures.did _ (c.in-Err.ensures.unmade _ refl);
+      frames = refl;
     })
 
 pub returns : goal.returns
@@ -32,4 +33,5 @@ returns g c =
           (sym c.is_readable.ensures ∙ c.if-not-is_readable.false) _ c.read_key-key.ensures.key
           c.in_default-form_key.ensures.did made.0 made.1 _ is c.is_executable.result
           c.is_executable.ensures _ c.with_executable.ensures.value c.with_executable.ensures.word;
+      frames = refl;
     })

@@ -18,6 +18,7 @@ returns-then-is_some g c = record {
   acts = λ attempt. words_acts _ attempt _ _ _ c.requires.good c.requires.good.operands
       (cvi_stays _ _ c.in-Some.ensures (ap is_some (c.integer_of.ensures _ _)
       ∙ (sym c.is_some.ensures ∙ c.if-is_some.true)) attempt);
+  frames = refl;
 }
 
 pub returns-in_default-string_of : goal.returns-in_default-string_of
@@ -25,6 +26,7 @@ returns-in_default-string_of g c = record {
   acts = λ attempt. raised_acts _ attempt _ _ c.requires.good TypeCheck
       (cvi_wrong _ _ c.in-Some.ensures (ap is_some (c.integer_of.ensures _ _)
       ∙ (sym c.is_some.ensures ∙ c.if-is_some.false)) (c.in_default-string_of.ensures.part _ _));
+  frames = refl;
 }
 
 pub returns-then-not-is_readable : goal.returns-then-not-is_readable
@@ -32,6 +34,7 @@ returns-then-not-is_readable g c = record {
   acts = λ attempt. raised_acts _ attempt _ _ c.requires.good InvalidAccess
       (cvi_hidden _ _ c.in-Some.ensures _ (c.in-Some-string_of.ensures.part _ _)
       (sym c.is_readable.ensures ∙ c.if-not-is_readable.true));
+  frames = refl;
 }
 
 pub returns-in-Ok : goal.returns-in-Ok
@@ -51,6 +54,7 @@ returns-in-Ok g c =
           (first_held (IsWithin (birth_at h) _ store) _ shown.operands _ c.in-Some.ensures)))
           c.in-Ok.number refl attempt _ c.integer.ensures.plain
           (λ births names. c.integer.ensures.value births names ∙ ap integer same));
+      frames = refl;
     })
 
 pub returns-in-Err-NoNumber : goal.returns-in-Err-NoNumber
@@ -65,6 +69,7 @@ returns-in-Err-NoNumber g c =
           (λ store shown. read _ store shown.shows
           (c.in-Some-string_of.ensures.within (birth_at h) _ store
           (first_held (IsWithin (birth_at h) _ store) _ shown.operands _ c.in-Some.ensures))));
+      frames = refl;
     })
 
 pub returns-in-Err-Syntax : goal.returns-in-Err-Syntax
@@ -79,6 +84,7 @@ returns-in-Err-Syntax g c =
           (λ store shown. read _ store shown.shows
           (c.in-Some-string_of.ensures.within (birth_at h) _ store
           (first_held (IsWithin (birth_at h) _ store) _ shown.operands _ c.in-Some.ensures))));
+      frames = refl;
     })
 
 pub returns-in-Err-Limit : goal.returns-in-Err-Limit
@@ -93,4 +99,5 @@ returns-in-Err-Limit g c =
           (λ store shown. read _ store shown.shows
           (c.in-Some-string_of.ensures.within (birth_at h) _ store
           (first_held (IsWithin (birth_at h) _ store) _ shown.operands _ c.in-Some.ensures))));
+      frames = refl;
     })

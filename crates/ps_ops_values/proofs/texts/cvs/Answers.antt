@@ -16,8 +16,8 @@ use Rattle.ps_ops_sequences.specs.Asks.{IsStoreReason}
 use Rattle.ps_ops_values.proofs.CvsRow.{string_length, text_reason, cvs_long, cvs_wants, cvs_acts}
 use Rattle.ps_ops_values.proofs.texts.cvs.Goals as goal
 
-pub returns-in-Err-TooLong : goal.returns-in-Err-TooLong
-returns-in-Err-TooLong g c =
+pub returns-in-Err-TooLong-clause-acts : goal.returns-in-Err-TooLong-clause-acts
+returns-in-Err-TooLong-clause-acts g c =
     let h = g.M.Memory.heap c.args.runtime.now.memory in
     let good = c.requires.good in
     let same = at_least-same (rooms_of c.args.runtime.now.shared.scratch) in
@@ -37,8 +37,8 @@ returns-in-Err-TooLong g c =
     store shown (reads store shown.shows (second_held (IsWithin (birth_at h) _ store) _
     shown.operands _ _ c.in-Some.ensures))))
 
-pub returns-in-Err-Memory : goal.returns-in-Err-Memory
-returns-in-Err-Memory g c =
+pub returns-in-Err-Memory-clause-acts : goal.returns-in-Err-Memory-clause-acts
+returns-in-Err-Memory-clause-acts g c =
     let h = g.M.Memory.heap c.args.runtime.now.memory in
     let good = c.requires.good in
     let same = at_least-same (rooms_of c.args.runtime.now.shared.scratch) in
@@ -60,8 +60,8 @@ returns-in-Err-Memory g c =
 
 -- a string that may be read is copied
 
-pub returns-then-from-part : goal.returns-then-from-part
-returns-then-from-part g c =
+pub returns-then-from-part-clause-acts : goal.returns-then-from-part-clause-acts
+returns-then-from-part-clause-acts g c =
     let h = g.M.Memory.heap c.args.runtime.now.memory in
     let good = c.requires.good in
     let from = c.in-Some-readable_part.from in
@@ -76,8 +76,8 @@ returns-then-from-part g c =
     (c.in-Some-string_of.ensures.part _ _) (sym c.is_writable.ensures ∙ c.if-not-is_writable.false)
     store shown (omega (arith, long, count)))
 
-pub returns-in-Err : goal.returns-in-Err
-returns-in-Err g c =
+pub returns-in-Err-clause-acts : goal.returns-in-Err-clause-acts
+returns-in-Err-clause-acts g c =
     let h = g.M.Memory.heap c.args.runtime.now.memory in
     let good = c.requires.good in
     let from = c.in-Some-readable_part.from in
@@ -95,8 +95,8 @@ returns-in-Err g c =
     (g.M.Memory.grants c.args.runtime.now.memory) (g.M.Memory.grants c.copy_contents.new.memory)
     c.in-Err.reason) (sym (count store shown)) c.in-Err.ensures.reason))
 
-pub returns-in-Some-readable_part : goal.returns-in-Some-readable_part
-returns-in-Some-readable_part g c =
+pub returns-in-Some-readable_part-clause-acts : goal.returns-in-Some-readable_part-clause-acts
+returns-in-Some-readable_part-clause-acts g c =
     let h = g.M.Memory.heap c.args.runtime.now.memory in
     let good = c.requires.good in
     let from = c.in-Some-readable_part.from in
@@ -124,8 +124,8 @@ returns-in-Some-readable_part g c =
     (c.string_interval.ensures.value (birth_at h) c.args.runtime.now.shared.names)
     (λ store within. c.string_interval.ensures.within (birth_at h) _ store within))
 
-pub returns-in-Err-write_text : goal.returns-in-Err-write_text
-returns-in-Err-write_text g c =
+pub returns-in-Err-write_text-clause-acts : goal.returns-in-Err-write_text-clause-acts
+returns-in-Err-write_text-clause-acts g c =
     let h = g.M.Memory.heap c.args.runtime.now.memory in
     let good = c.requires.good in
     let room = c.read_text.ensures.room in
@@ -154,8 +154,8 @@ returns-in-Err-write_text g c =
     (vec_capacity c.args.runtime.now.shared.scratch.words) c.args.attempt.slot
     (g.M.Memory.grants c.args.runtime.now.memory) (g.M.Memory.grants c.write_text.new.memory) reason)))
 
-pub returns : goal.returns
-returns g c =
+pub returns-clause-acts : goal.returns-clause-acts
+returns-clause-acts g c =
     let h = g.M.Memory.heap c.args.runtime.now.memory in
     let good = c.requires.good in
     let read = c.read_text.new.text.items in

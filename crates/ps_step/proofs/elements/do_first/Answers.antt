@@ -1,9 +1,25 @@
 -- Element after element, until one is not done.
 use Rattle.std.proofs.Common.{◌≡◌, ℕ, ◌+◌, ◌-◌, ◌<◌, ◌≤◌, List, arith, refl, sym, ◌∙◌, subst}
 use Rattle.ps_word.specs.declared.words.Word.{Word}
+use Rattle.ps_ops_state.specs.Lent.{Lent}
+use Rattle.ps_step_frames.specs.Steps.{frames_after}
 use Rattle.ps_step.specs.Elements.{DoesTo}
 use Rattle.ps_step.proofs.Ahead.{does_into, does_more, does_none, read_at}
 use Rattle.ps_step.proofs.elements.do_first.Goals as goal
+
+pub element_at-word-requires-clause-sound : goal.element_at-word-requires-clause-sound
+element_at-word-requires-clause-sound g c =
+    rw c.loop-at.invariant.heap c.requires.good.2.sound
+
+-- what is done so far leaves what is good
+pub do_quickly-requires-clause-good : goal.do_quickly-requires-clause-good
+do_quickly-requires-clause-good g c =
+    let l : Lent = c.requires.good.0 in
+    let below = c.requires.good.1 in
+    let start : ℕ = c.args.rest.address + c.args.rest.offset in
+    let made = c.loop-at.invariant.does l below c.requires.good.2 in
+    rw (c.element_at-word.ensures.heap ∙ c.loop-at.invariant.heap)
+    (record l { frames = frames_after (c.loop-at.at - start) c.args.rest below }, made.good)
 
 pub loop-at-init : goal.loop-at-init
 loop-at-init g c =

@@ -33,6 +33,11 @@ loop-end-init g c =
           (run_none start c.requires.good));
     }
 
+pub do_first-done-requires-clause-good : goal.do_first-done-requires-clause-good
+do_first-done-requires-clause-good g c =
+    let l : Lent = lent_of g.M.Memory.heap g.M.Memory.grants c.loop-end.context c.loop-end.runtime in
+    (l, l.frames, c.loop-end.invariant.makes.good)
+
 pub do_first-done-requires-clause-part : goal.do_first-done-requires-clause-part
 do_first-done-requires-clause-part g c =
     let l : Lent = lent_of g.M.Memory.heap g.M.Memory.grants c.loop-end.context c.loop-end.runtime in

@@ -2,8 +2,16 @@
 use Rattle.std.proofs.Common.{Some, Ok, Err, refl, ap, ◌∙◌}
 use Rattle.ps_ops_state.specs.Lent.{Lent, lent_of}
 use Rattle.ps_step.specs.Texts.{bytes_scanned}
+use Rattle.ps_step.specs.Reading.{read_to}
 use Rattle.ps_step.proofs.Reading.{read_taken, is_read}
 use Rattle.ps_step.proofs.texts.read_token.Goals as goal
+
+pub word_ahead-requires-clause-good : goal.word_ahead-requires-clause-good
+word_ahead-requires-clause-good g c = (
+  read_to c.args.cursor.now.source c.args.cursor.now.at
+      (lent_of g.M.Memory.heap g.M.Memory.grants c.args.context.now c.args.runtime.now),
+  c.requires.good,
+)
 
 pub treat_token-requires-clause-read : goal.treat_token-requires-clause-read
 treat_token-requires-clause-read g c =

@@ -4,6 +4,9 @@ use Rattle.ps_scan.specs.Shown.{token_of}
 use Rattle.ps_step.proofs.Reading.{word_does}
 use Rattle.ps_step.proofs.tokens.do_ahead.Goals as goal
 
+pub do_quickly-requires-clause-good : goal.do_quickly-requires-clause-good
+do_quickly-requires-clause-good g c = c.requires.good
+
 pub do_quickly-requires-clause-word : goal.do_quickly-requires-clause-word
 do_quickly-requires-clause-word g c = c.in-Some.ensures.done.held _
 

@@ -2,6 +2,9 @@
 use Rattle.ps_step.proofs.Reading.{word_reads}
 use Rattle.ps_step.proofs.tokens.word_ahead.Goals as goal
 
+pub do_ahead-requires-clause-good : goal.do_ahead-requires-clause-good
+do_ahead-requires-clause-good g c = c.requires.good
+
 pub returns-clause-reads : goal.returns-clause-reads
 returns-clause-reads g c =
     word_reads g.O.Operate.asks (g.M.Memory.heap c.args.memory.now) c.args.dictionaries.now

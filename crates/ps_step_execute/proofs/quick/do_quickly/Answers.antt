@@ -1,11 +1,25 @@
 -- A procedure is pushed, a name is treated as what is found, and all else as it is.
 use Rattle.std.proofs.Common.{Ok, refl, sym, ap, ◌∙◌}
 use Rattle.ps_mem.specs.Shows.{IsValue}
+use Rattle.ps_ops_state.proofs.Lifts.{held}
 use Rattle.ps_step_execute.proofs.Alone.{literal_treated, name_treats, operator_treated, own_treats, procedure_comes}
 use Rattle.ps_step_execute.proofs.Alone.{treated_comes}
 use Rattle.ps_step_execute.proofs.Executing.{found_as, literal_unmade, literal_unnamed, name_unmade, named, made}
 use Rattle.ps_step_execute.proofs.Executing.{operator_unmade, operator_unnamed, unmade, unnamed}
 use Rattle.ps_step_execute.proofs.quick.do_quickly.Goals as goal
+
+pub operate_ahead-came-requires : goal.operate_ahead-came-requires
+operate_ahead-came-requires g c = record { ready = held c.requires.good.1 }
+
+pub look_up-requires-clause-sound : goal.look_up-requires-clause-sound
+look_up-requires-clause-sound g c = c.requires.good.1.sound
+
+pub look_up-requires-clause-dictionaries : goal.look_up-requires-clause-dictionaries
+look_up-requires-clause-dictionaries g c = c.requires.good.1.dictionaries
+
+pub treat_ahead-came-requires-clause-ready : goal.treat_ahead-came-requires-clause-ready
+treat_ahead-came-requires-clause-ready g c =
+    rw c.look_up.ensures.heap (held c.requires.good.1)
 
 pub returns-then-not-is_executable-clause-comes : goal.returns-then-not-is_executable-clause-comes
 returns-then-not-is_executable-clause-comes g c =
@@ -17,7 +31,8 @@ returns-then-not-is_executable-clause-comes g c =
     c.args.word
     (λ births names. literal_unmade c.args.word births names literal)
     (λ births names. literal_unnamed c.args.word births names literal))
-    (literal_treated g.O.Operate.asks c.args.word c.args.word _ _ _ literal c.push_quickly.result
+    (literal_treated g.O.Operate.asks c.args.word c.args.word
+    (g.M.Memory.heap c.args.memory.now) _ _ _ literal c.push_quickly.result
     c.of-came.ensures (c.push_quickly.ensures c.args.word))
 
 pub returns-in-Array-clause-comes : goal.returns-in-Array-clause-comes
@@ -46,7 +61,7 @@ returns-in-Ok-Some-clause-comes g c =
     (λ births names. name_unmade c.args.word births names _ content may)
     (λ births names. named c.args.word births names _ may content)
     c.look_up.result c.in-Ok-Some.found is c.look_up.ensures.value c.look_up.ensures.within)
-    (c.treat_ahead-came.ensures.comes c.args.word)
+    (rw c.look_up.ensures.heap at (c.treat_ahead-came.ensures.comes c.args.word))
 
 pub returns-in_default-content-2 : goal.returns-in_default-content-2
 returns-in_default-content-2 g c =
@@ -79,5 +94,6 @@ returns-in-Some-clause-comes g c =
     c.args.word
     (λ births names. operator_unmade c.args.word births names _ is.1 is.0)
     (λ births names. operator_unnamed c.args.word births names _ is.1 is.0))
-    (operator_treated g.O.Operate.asks c.args.word c.args.word _ _ _ c.in-Some.operator is.0 is.1
+    (operator_treated g.O.Operate.asks c.args.word c.args.word
+    (g.M.Memory.heap c.args.memory.now) _ _ _ c.in-Some.operator is.0 is.1
     c.operate_ahead-came.ensures.comes)
