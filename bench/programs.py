@@ -1,7 +1,8 @@
 """Ten programs, each of which spends its time in one thing, and ten in ordinary style.
 
 Each of the first has its name, how many rounds are enough to count its instructions, how many to measure its time, and its text, which makes
-`n` rounds. The others are the files of bench/ordinary, whose first line says how many rounds they make.
+`n` rounds. The others are the files of bench/ordinary, whose first line says how many rounds they make; beside each lies its twin in Lua,
+which prints the same.
 """
 import glob
 import os
@@ -52,3 +53,9 @@ def ordinary():
         with open(path, encoding='ascii') as file:
             made.append((os.path.basename(path).removesuffix('.ps'), file.read()))
     return made
+
+
+def twin_of(name):
+    """The file of the twin in Lua of a program in ordinary style; none of another program."""
+    path = os.path.join(os.path.dirname(os.path.abspath(__file__)), 'ordinary', name + '.lua')
+    return path if os.path.exists(path) else None
