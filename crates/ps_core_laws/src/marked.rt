@@ -1,7 +1,8 @@
 //! A memory with marks whose objects a collector moves.
 //!
 //! Marks go by birth numbers, which objects keep where they move: what covers a memory covers it
-//! behind a flip. So no call here changes a mark.
+//! behind a flip. So no call here changes a mark. Cells go by addresses: all are forgotten at a
+//! flip.
 
 ghost use Rattle.std.specs.Prelude.{◌≡◌};
 
@@ -52,14 +53,26 @@ impl<M: LoggedMemory + Drop, C: Collects<M>> Collects<Marked<M>> for Past<C> {
     }
 
     fn try_flip(&mut self, memory: &mut Marked<M>, roots: &mut [Word]) -> Result<(), Unready> {
-        self.0.try_flip(&mut memory.memory, roots)
+        let flipped = self.0.try_flip(&mut memory.memory, roots);
+        if flipped.is_ok() {
+            memory.cells.forget();
+        }
+        flipped
     }
 
     fn whole_cycle(&mut self, memory: &mut Marked<M>, roots: &mut [Word]) -> bool {
-        self.0.whole_cycle(&mut memory.memory, roots)
+        let made = self.0.whole_cycle(&mut memory.memory, roots);
+        if made {
+            memory.cells.forget();
+        }
+        made
     }
 
     fn end_cycle(&mut self, memory: &mut Marked<M>, roots: &mut [Word]) -> bool {
-        self.0.end_cycle(&mut memory.memory, roots)
+        let ended = self.0.end_cycle(&mut memory.memory, roots);
+        if ended {
+            memory.cells.forget();
+        }
+        ended
     }
 }

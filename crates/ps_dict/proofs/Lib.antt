@@ -36,3 +36,4 @@ pub mod Overwriting
 pub mod NewBodies
 pub mod Copying
 pub mod Counting
+pub mod Telling

@@ -1,42 +1,12 @@
 -- Where the fields of a dictionary say that its pairs are, and the place of a key among them.
-use Rattle.std.specs.Prelude.{ℕ, ◌<◌, IsTrue, ℤ, unsigned_abs, suc, List, [], ◌∷◌, Option, Some, None, option_map, unwrap_or, slice_index_or, take, if◌then◌else◌, true, map, length, slice_get, slice_set, ◌≡◌, ◌<◌, ◌^◌}
+use Rattle.std.specs.Prelude.{ℕ, ◌<◌, IsTrue, suc, List, [], ◌∷◌, Option, Some, None, option_map, if◌then◌else◌, true, map, length, slice_get, slice_set, ◌≡◌, ◌^◌}
 use Rattle.ps_language.specs.Value.{Value}
 use Rattle.ps_language.specs.Equality.{same_key}
 use Rattle.ps_word.specs.declared.words.Word.{Word}
-use Rattle.ps_word.specs.Format.{content_in}
-use Rattle.ps_word.specs.Readers.{as_integer, as_body}
-use Rattle.ps_mem.specs.Heap.{Heap, Grants, fields_at, zero_word}
-use Rattle.ps_mem.specs.Index.{pairs_of_words, has_free, placed, index_word}
-use Rattle.ps_dict.specs.Keys.{same_words}
-
--- ---- the fields
-
--- the size of an integer
-abbrev pub natural_of : Option ℤ → ℕ
-natural_of (Some number) = unsigned_abs number
-natural_of None = 0
-
--- the natural number in a field
-unfoldable pub natural_in : List Word → ℕ → ℕ
-natural_in fields place =
-    natural_of (as_integer (content_in (slice_index_or fields place zero_word).0))
-
--- the body's address in a field
-unfoldable pub body_in : List Word → ℕ → ℕ
-body_in fields place = unwrap_or (as_body (content_in (slice_index_or fields place zero_word).0)) 0
-
--- the number of pairs, the capacity, the access and the body of the dictionary at an address
-abbrev pub count_at : Heap → ℕ → ℕ
-count_at h address = natural_in (fields_at h address) 0
-
-abbrev pub capacity_at : Heap → ℕ → ℕ
-capacity_at h address = natural_in (fields_at h address) 1
-
-abbrev pub access_at : Heap → ℕ → ℕ
-access_at h address = natural_in (fields_at h address) 2
-
-abbrev pub body_at : Heap → ℕ → ℕ
-body_at h address = body_in (fields_at h address) 3
+use Rattle.ps_mem.specs.Heap.{Heap, Grants}
+use Rattle.ps_mem.specs.Index.{has_free, placed, index_word}
+pub use Rattle.ps_mem.specs.Places.{natural_of, count_at, capacity_at, access_at, body_at}
+unfoldable pub use Rattle.ps_mem.specs.Places.{natural_in, body_in, pairs_at, place_of}
 
 -- a list of this capacity doesn't take as many words as the dictionary has room for
 abbrev pub IsShort : (capacity : ℕ) → Heap → (address : ℕ) → Type 0
@@ -45,12 +15,6 @@ IsShort capacity h address = capacity < capacity_at h address
 -- its body may still be filled
 abbrev pub HasNewBody : Heap → Grants → (address : ℕ) → Type 0
 HasNewBody h grants address = IsTrue (grants.fresh (body_at h address))
-
--- ---- the pairs
-
--- the pairs of the dictionary at an address
-unfoldable pub pairs_at : Heap → ℕ → List (Word × Word)
-pairs_at h address = take (count_at h address) (pairs_of_words (fields_at h (body_at h address)))
 
 -- ---- places
 
@@ -61,12 +25,6 @@ IsPlaceFor words capacity start place =
     (places : List (Option ℕ)) → words ≡ map index_word places → length places ≡ capacity
     → ((i q : ℕ) → slice_get places i ≡ Some (Some q) → q < 2 ^ 31) → has_free places ≡ true
     → (position : ℕ) → placed position start places ≡ slice_set places place (Some position)
-
--- the place of the first pair of words whose key is the same
-unfoldable pub place_of : List (Word × Word) → Word → Option ℕ
-place_of [] key = None
-place_of (pair ∷ pairs) key =
-    if same_words pair.0 key then Some 0 else option_map suc (place_of pairs key)
 
 -- the place of the first pair whose key is the same
 unfoldable pub first_place : List (Value × Value) → Value → Option ℕ

@@ -27,6 +27,7 @@
 
 mod appends;
 mod bodies;
+pub mod cells;
 pub mod changes;
 pub mod copies;
 pub mod dictionaries;

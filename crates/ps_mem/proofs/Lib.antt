@@ -26,3 +26,4 @@ pub mod StandsLemmas
 pub mod LessWords
 pub mod ReachedWords
 pub mod MarkLemmas
+pub mod CellLemmas

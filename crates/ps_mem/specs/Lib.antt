@@ -1,10 +1,13 @@
 pub mod Bounded
+pub mod Cells
 pub mod Heap
 pub mod Index
 pub mod Keeps
+pub mod Keys
 pub mod Marks
 pub mod Meaning
 pub mod Objects
+pub mod Places
 pub mod Plain
 pub mod References
 pub mod Shows

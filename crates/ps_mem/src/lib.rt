@@ -26,16 +26,19 @@
 ghost use Rattle.std.specs.Prelude.{◌≡◌, ℕ, ◌+◌, ◌-◌, ◌^◌, ◌<◌, ◌≤◌, ◌↔◌, ◌≢◌, List, [], ◌∷◌, Bool, true, false, IsTrue, length, slice_get, Option, Some, None, OnOk, OnErr, IsOk, IsErr, IfSome, IsSome, slice_range};
 ghost use Rattle.ps_word.specs.Headers.{birth_limit};
 ghost use Rattle.ps_mem.specs.Heap.{Heap, Grants, AfterNew, AfterStore, object_at, fields_at, birth_at, stored, made, made_body, IsKind, has_room, standing_words, records_put, IsLogBounded};
+ghost use Rattle.ps_mem.specs.Cells.{IsCellOf, IsFirstValue};
 ghost use Rattle.ps_mem.specs.Marks.{Tells};
 ghost use Rattle.ps_mem.specs.References.{NamesStanding};
 ghost use Rattle.ps_mem.specs.Stands.{IsAddressed};
 
 pub mod bounded;
+pub mod cells;
 pub mod marked;
 pub mod marks;
 pub mod plain;
 mod region;
 
+use cells::{Cell, DictionaryPair};
 use marks::Mark;
 use ps_language::kinds::Kind;
 pub use ps_record::slots::Slot;
@@ -251,4 +254,24 @@ pub trait Memory {
     {
         Mark::Anywhere
     }
+
+    /// The value of a name in the first of two dictionaries that has it as a key, where it is known
+    /// without a search and both can be read. A memory that keeps no cells knows none.
+    #[inline(always)]
+    fn known(&mut self, _upper: Word, _lower: Word, _name: u16) -> Option<Word>
+        ensures heap { heap self.new ≡ heap self.old }
+        ensures grants { grants self.new ≡ grants self.old }
+        ensures answer { IfSome result (IsFirstValue (heap self.old) _upper _lower _name) }
+    {
+        None
+    }
+
+    /// Tells where the value of a name stands, so that it may be known. A memory that keeps no cells
+    /// does nothing.
+    #[inline(always)]
+    fn keep(&mut self, _pair: DictionaryPair, _name: u16, _cell: Cell)
+        requires tells { IsCellOf (heap self.old) _pair _name _cell }
+        ensures heap { heap self.new ≡ heap self.old }
+        ensures grants { grants self.new ≡ grants self.old }
+    {}
 }

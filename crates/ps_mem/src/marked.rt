@@ -1,14 +1,17 @@
 //! A memory that keeps marks of the names that its dictionaries have as keys, so that a look-up
-//! needn't search where a name can't be.
+//! needn't search where a name can't be, and cells, so that mostly it needn't search at all.
 //!
 //! The marks cover what stands: each key that is a name is admitted by its mark. What is to become
-//! one is marked before it is stored.
+//! one is marked before it is stored. The cells tell where values stand: what a store would make
+//! untrue is forgotten before it.
 
 ghost use Rattle.std.specs.Prelude.{◌≡◌, ◌≢◌, ℕ, ◌+◌, ◌≤◌, ◌<◌, None, IsSome, length, slice_range};
+ghost use Rattle.ps_mem.specs.Cells.{AreCellsOf};
 ghost use Rattle.ps_mem.specs.Heap.{empty_heap, fields_at, object_at};
 ghost use Rattle.ps_mem.specs.Marks.{AreMarked, Covers, IsKeyMarked, IsMarked, Widens};
 ghost use Rattle.ps_mem.specs.Plain.{plain_space};
 
+use crate::cells::{Cell, Cells, DictionaryPair};
 use crate::marks::{Mark, Marks};
 use crate::plain::PlainMemory;
 use crate::{FieldAt, Memory, NeedFault, Permit};
@@ -18,16 +21,18 @@ use ps_word::headers::Header;
 use ps_word::words::Word;
 use std::alloc::Global;
 
-/// A memory with its marks.
+/// A memory with its marks and its cells.
 #[derive(Drop)]
 pub struct Marked<M: Memory + Drop> {
     pub memory: M,
     pub marks: Marks,
+    pub cells: Cells,
     pub ghost covers: { Covers (M.heap memory) marks.items.items },
+    pub ghost tell: { AreCellsOf (M.heap memory) cells.pair cells.items.items },
 }
 
 impl<M: Memory + Drop> Marked<M> {
-    /// A memory in which nothing stands, with marks.
+    /// A memory in which nothing stands, with marks and with room for cells.
     pub fn new(alloc: Global, memory: M) -> Marked<M>
         requires empty { (address : ℕ) → object_at (M.heap memory) address ≡ None }
         ensures { result.memory ≡ memory }
@@ -35,6 +40,7 @@ impl<M: Memory + Drop> Marked<M> {
         Marked {
             memory,
             marks: Marks::new(alloc),
+            cells: Cells::new(alloc),
         }
     }
 
@@ -199,17 +205,20 @@ impl<M: Memory + Drop> Memory for Marked<M> {
     #[inline(always)]
     fn fill(&mut self, address: u32, place: u32, word: Word) {
         self.mark_word(address, place, word);
+        self.cells.settle(address, place, 1);
         self.memory.fill(address, place, word);
     }
 
     #[inline(always)]
     fn store(&mut self, slot: Slot, address: u32, place: u32, items: &[Word]) {
         self.mark_stored(address, place, items);
+        self.cells.settle(address, place, items.len());
         self.memory.store(slot, address, place, items);
     }
 
     fn copy(&mut self, slot: Slot, from: FieldAt, to: FieldAt, count: u32) {
         self.mark_copied(from, to, count);
+        self.cells.settle(to.address, to.place, count as usize);
         self.memory.copy(slot, from, to, count);
     }
 
@@ -221,5 +230,18 @@ impl<M: Memory + Drop> Memory for Marked<M> {
     #[inline(always)]
     fn mark(&mut self, name: u16) -> Mark {
         self.marks.of(name)
+    }
+
+    #[inline(always)]
+    fn known(&mut self, upper: Word, lower: Word, name: u16) -> Option<Word> {
+        match self.cells.of(upper, lower, name) {
+            Some(cell) => Some(self.memory.load_at(cell.body, cell.at as usize)),
+            None => None,
+        }
+    }
+
+    #[inline]
+    fn keep(&mut self, pair: DictionaryPair, name: u16, cell: Cell) {
+        self.cells.keep(pair, name, cell);
     }
 }

@@ -25,6 +25,7 @@ use Rattle.ps_ops_operands.specs.Changes.{Observes}
 use Rattle.ps_ops_operands.proofs.Operands.{first_split}
 use Rattle.ps_ops_operands.proofs.Held.{rest_held}
 use Rattle.ps_ops_operands.proofs.Ready.{plain_within}
+pub use Rattle.ps_dict.proofs.Telling.{dictionary_stands}
 
 module _ (births : ℕ → ℕ) (names : List (List ℕ)) (s : Store) where
   part_access : (c : Content) (part : Part) → Some part ≡ words.as_part c
@@ -86,27 +87,6 @@ module _ (births : ℕ → ℕ) (names : List (List ℕ)) (s : Store) where
       → access_of s (value_of births names w) ≡ None
   unfolding access_of value_of
   nothing_has w part dictionary = no_access (content_in w.0) part dictionary
-
-stands_dictionary : (h : Heap) (c : Content) → IsKnownContent h c → (a : ℕ) → Some a ≡ words.as_dictionary c
-    → StandsAs h DictionaryKind a 4
-stands_dictionary h Null k a is = cc
-stands_dictionary h (Integer _) k a is = cc
-stands_dictionary h (Boolean _) k a is = cc
-stands_dictionary h Mark k a is = cc
-stands_dictionary h (Name _) k a is = cc
-stands_dictionary h (Operator _) k a is = cc
-stands_dictionary h (Array p) k a is = cc
-stands_dictionary h (Text p) k a is = cc
-stands_dictionary h (Dictionary b) k a is = let same : a ≡ b = cc in
-    subst (λ n. StandsAs h DictionaryKind n 4) (sym same) k
-stands_dictionary h (Lock _) k a is = cc
-stands_dictionary h (Condition _) k a is = cc
-stands_dictionary h (Body _) k a is = cc
-
-pub dictionary_stands : (h : Heap) (w : Word) → IsValue h w → (a : ℕ) → Some a ≡ words.as_dictionary (content_in w.0)
-    → StandsAs h DictionaryKind a 4
-unfolding IsKnown
-dictionary_stands h w v a is = stands_dictionary h (content_in w.0) v.known a is
 
 -- whether it permits something
 module _ (test : Access → Bool) (h : Heap) (old : List Word) (w : Word) (one : Some w

@@ -24,7 +24,8 @@ use Rattle.ps_ops_state.specs.Lent.{Lent, scene_of, IsGood}
 use Rattle.ps_step_outcome.specs.declared.turned.Turned.TheVariants.{Goes}
 use Rattle.ps_step_outcome.specs.Turns.{IsShownWith, TurnsWith, nothing_more}
 use Rattle.ps_step_outcome.proofs.Composing.{turns_over, turns_shown}
-use Rattle.ps_step_lookup.specs.Lookups.{IsSought, found_of}
+use Rattle.ps_step_lookup.specs.Lookups.{IsValueOf}
+use Rattle.ps_step_lookup.proofs.Knowing.{known_as}
 use Rattle.ps_step_outcome.specs.declared.turned.Turned.{Turned}
 use Rattle.ps_ops_operands.specs.declared.failure.NotMade.{NotMade as Reason}
 use Rattle.ps_step_execute.specs.declared.quick.Fast.{Fast}
@@ -32,8 +33,7 @@ use Rattle.ps_step_execute.specs.declared.quick.Fast.TheVariants.{Enters, Treats
 use Rattle.ps_step_execute.specs.Quick.{IsTreated, TreatsAs, ComesTo, came_or}
 use Rattle.ps_step_execute.specs.Values.{meaning, EntersIn, EntersAlone, GoesAlone, among, over_heap, pushed_turn, operated_turn}
 use Rattle.ps_step_execute.specs.Values.{treated_turn, done_turn, Asks, operated_asks, treated_asks, executed_asks}
-use Rattle.ps_step_execute.proofs.Executing.{operator_acts, treated_literal, treated_executable, procedure_pushed, found_as}
-use Rattle.ps_step_execute.proofs.Executing.{finds_value}
+use Rattle.ps_step_execute.proofs.Executing.{operator_acts, treated_literal, treated_executable, procedure_pushed}
 
 -- the same turn, said otherwise
 pub enters_as : (setting : Lent → Lent) (some words : List Word) (asked other : Lent → Store → Asked)
@@ -152,33 +152,18 @@ module _ (asks : Asks) (heap : Heap) (dictionaries : List Word) (word : Word) wh
         own_treated asks word (among heap dictionaries l) s word held.words_within.0 (unmade _ _)
         refl (unnamed _ _)
 
-    -- what is looked up
-    abbrev Looks : Result (Option (Word × Word)) ErrorName → Type 0
-    Looks result = (names : List (List ℕ)) (s : Store) (k : Value) → Shows heap names s
-        → AllPairs (λ first later. first ≢ later) names
-        → IsSought (birth_at heap) names s (Some word) k
-        → look_up s (values_in heap names dictionaries) k ≡ found_of (birth_at heap) names result
-
-    abbrev AreSeen : Result (Option (Word × Word)) ErrorName → Type 0
-    AreSeen result = (names : List (List ℕ)) (s : Store) → Shows heap names s
-        → AreWithin heap names s dictionaries
-        → IfOk result (λ found. IfSome found (λ pair.
-        IsWithin (birth_at heap) names s pair.0 × IsWithin (birth_at heap) names s pair.1))
-
     pub name_treats : ((births : ℕ → ℕ) (names : List (List ℕ))
         → is_executable_name (value_of births names word) ≡ true)
-        → (result : Result (Option (Word × Word)) ErrorName) (pair : Word × Word)
-        → result ≡ Ok (Some pair) → Looks result → AreSeen result
-        → TreatsAs asks heap dictionaries word pair.1
-    name_treats named result pair is looks seen = λ l s good held.
+        → (value : Word) → IsValueOf heap dictionaries word (Some value)
+        → ((names : List (List ℕ)) (s : Store) → Shows heap names s
+        → AreWithin heap names s dictionaries → IsWithin (birth_at heap) names s value)
+        → TreatsAs asks heap dictionaries word value
+    name_treats named value is seen = λ l s good held.
         let at : Lent = among heap dictionaries l in
-        name_treated asks word at s pair.1
-        (found_as (IsWithin (birth_at heap) at.names s) result pair is
-        (seen at.names s held.shown.shows held.shown.dictionaries))
+        name_treated asks word at s value
+        (seen at.names s held.shown.shows held.shown.dictionaries)
         (unmade _ _) (named _ _)
-        (finds_value at word result (IsShownWith (word ∷ word ∷ []) [])
-        (λ s held. looks at.names s _ held.shown.shows good.names.different (refl, held.words_within.0)) pair
-        is s held)
+        (known_as _ _ (is at.names s held.shown.shows good.names.different held.words_within.0))
 
   module _ (value : Word) (treats : TreatsAs asks heap dictionaries word value) where
     -- what treating the value comes to is what doing the element does

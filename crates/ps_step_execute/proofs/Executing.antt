@@ -33,6 +33,7 @@ use Rattle.ps_step_outcome.specs.declared.turned.Turned.TheVariants.{Goes}
 use Rattle.ps_step_outcome.specs.Turns.{IsShownWith, TurnsOver, Turns, TurnsWith, error_turn, none_asked, nothing_more}
 use Rattle.ps_step_outcome.proofs.Composing.{turns_over}
 use Rattle.ps_step_lookup.specs.Lookups.{found_of}
+pub use Rattle.ps_step_lookup.proofs.Knowing.{found_as}
 use Rattle.ps_step_execute.specs.Values.{meaning, pushed_turn, framed_turn, entered_turn, string_frame, scanned_turn}
 use Rattle.ps_step_execute.specs.Values.{operated_turn, executed_what_turn, treated_turn, executed_turn, done_turn, Asks}
 use Rattle.ps_step_execute.specs.Values.{what_asks, found_asks, done_asks, operated_asks, word_asks, treated_asks}
@@ -429,10 +430,3 @@ module _ (l : Lent) (word : Word) (result : Result (Option (Word × Word)) Error
   pub finds_closed : (error : ErrorName) → result ≡ Err error → (s : Store) → stores l s
       → looked_up (meaning l word) (scene_of l s).dictionaries s ≡ unreadable
   finds_closed error is s shown = finds (Err error) is s shown
-
--- what holds of what was found
-pub found_as : (P : Word → Type 0) (result : Result (Option (Word × Word)) ErrorName)
-    (pair : Word × Word) → result ≡ Ok (Some pair)
-    → IfOk result (λ found. IfSome found (λ p. P p.0 × P p.1)) → P pair.1
-found_as P result pair is held = (subst (λ (r : Result (Option (Word × Word)) ErrorName).
-    IfOk r (λ found. IfSome found (λ p. P p.0 × P p.1))) is held).1

@@ -15,7 +15,7 @@ use ps_mem::Memory;
 use ps_ops_control::ahead::Ahead;
 use ps_ops_operands::Operands;
 use ps_ops_state::lent::Dictionaries;
-use ps_step_lookup::lookups::look_up;
+use ps_step_lookup::lookups::look_up_name;
 use ps_word::values::{Content, Part};
 use ps_word::words::Word;
 
@@ -79,12 +79,12 @@ pub fn do_quickly<O: Operate, M: Memory>(
         return came_or(came, Fast::Slow);
     }
     match word.content() {
-        Content::Name(_) => {
-            let Ok(Some(found)) = look_up(memory, dictionaries, Some(word)) else {
+        Content::Name(name) => {
+            let Some(value) = look_up_name(memory, dictionaries, word, name) else {
                 return Fast::Slow;
             };
-            let came = treat_ahead::<O, M>(found.1, operands, memory, may_enter);
-            came_or(came, Fast::Treats(found.1))
+            let came = treat_ahead::<O, M>(value, operands, memory, may_enter);
+            came_or(came, Fast::Treats(value))
         }
         _ => Fast::Treats(word),
     }

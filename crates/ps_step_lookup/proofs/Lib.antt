@@ -1,3 +1,4 @@
 pub mod Keying
 pub mod Looking
 pub mod Formed
+pub mod Knowing

@@ -1,16 +1,20 @@
 -- What is looked up, and what was found.
-use Rattle.std.specs.Prelude.{◌≡◌, ℕ, List, Option, Some, None, option_map, Result, Ok, Err}
+use Rattle.std.specs.Prelude.{◌≡◌, ◌≢◌, ℕ, List, Option, Some, None, option_map, Result, Ok, Err}
+use Rattle.std.specs.List.{AllPairs}
 use Rattle.ps_language.specs.declared.errors.ErrorName.{ErrorName}
 use Rattle.ps_language.specs.declared.errors.ErrorName.TheVariants.{InvalidAccess}
 use Rattle.ps_language.specs.Access.{may_read}
 use Rattle.ps_language.specs.Dictionaries.{find, pairs_of}
 use Rattle.ps_language.specs.Outcome.{Outcome, leaves, fails, given_that}
 use Rattle.ps_language.specs.Readers.{literal_name}
+use Rattle.ps_language.specs.StepValues.{LookedUp, known, unknown, unreadable, looked_up}
 use Rattle.ps_language.specs.Value.{Value, Store}
 use Rattle.ps_word.specs.declared.words.Word.{Word}
+use Rattle.ps_mem.specs.Heap.{Heap, birth_at}
 use Rattle.ps_mem.specs.Meaning.{value_of}
-use Rattle.ps_mem.specs.Shows.{IsWithin, pair_of}
+use Rattle.ps_mem.specs.Shows.{IsWithin, Shows, pair_of}
 use Rattle.ps_names.specs.Names.{place_of}
+use Rattle.ps_ops_operands.specs.Changes.{values_in}
 
 -- a key by its word, or the name of a text that was not met
 abbrev pub IsSought : (births : ℕ → ℕ) → (names : List (List ℕ)) → Store → Option Word → Value
@@ -36,3 +40,26 @@ LooksIn births names s dictionary k result =
 abbrev pub found_of : (births : ℕ → ℕ) → (names : List (List ℕ))
     → Result (Option (Word × Word)) ErrorName → Outcome (Option (Value × Value))
 found_of births names = outcome_by (option_map (pair_of births names))
+
+-- ---- the value of a name
+
+-- what was found, without the dictionary that has it
+abbrev pub second_of : {A B E : Type 0} → Result (Option (A × B)) E → Option B
+second_of (Ok (Some found)) = Some found.1
+second_of (Ok None) = None
+second_of (Err error) = None
+
+-- the value that is known
+abbrev pub known_value : LookedUp → Option Value
+known_value (known value) = Some value
+known_value unknown = None
+known_value unreadable = None
+
+-- the value that a name has by the dictionary stack, or none, where it is unknown or one that can't
+-- be read comes first
+abbrev pub IsValueOf : Heap → (dictionaries : List Word) → (name : Word) → Option Word → Type 0
+IsValueOf h dictionaries name found =
+    (names : List (List ℕ)) (s : Store) → Shows h names s
+    → AllPairs (λ first later. first ≢ later) names → IsWithin (birth_at h) names s name
+    → option_map (value_of (birth_at h) names) found
+    ≡ known_value (looked_up (value_of (birth_at h) names name) (values_in h names dictionaries) s)

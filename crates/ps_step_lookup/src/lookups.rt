@@ -11,8 +11,10 @@ ghost use Rattle.ps_mem.specs.Meaning.{value_of};
 ghost use Rattle.ps_mem.specs.References.{StandsAs};
 ghost use Rattle.ps_mem.specs.Shows.{AreValues, AreWithin, IsSound, IsValue, IsWithin, Shows};
 ghost use Rattle.ps_ops_operands.specs.Changes.{values_in};
-ghost use Rattle.ps_step_lookup.specs.Lookups.{IsSought, LooksIn, found_of};
+ghost use Rattle.ps_word.specs.Format.{content_in};
+ghost use Rattle.ps_step_lookup.specs.Lookups.{IsSought, IsValueOf, LooksIn, found_of};
 
+use ps_dict::cells::keep_cell;
 use ps_dict::dictionaries::{access, value_of_key};
 use ps_language::errors::ErrorName;
 use ps_language::kinds::Kind;
@@ -20,6 +22,7 @@ use ps_mem::Memory;
 use ps_ops_operands::access::is_readable;
 use ps_ops_state::lent::Dictionaries;
 use ps_ops_types::access::access_of;
+use ps_word::values::Content;
 use ps_word::words::Word;
 
 /// The value of a key in a dictionary, where it has it. A name that was not met has no word, and no
@@ -143,4 +146,84 @@ pub fn look_up<M: Memory>(
         }
     }
     Ok(None)
+}
+
+/// Tells the memory where the value of a name stands, if one of the two lowest dictionaries has it.
+fn tell_lowest<M: Memory>(memory: &mut M, dictionaries: &Dictionaries, word: Word)
+    requires sound { IsSound (M.heap memory.old) }
+    requires dictionaries { AreValues (M.heap memory.old) dictionaries.now }
+    requires key { IsValue (M.heap memory.old) word }
+    ensures heap { M.heap memory.new ≡ M.heap memory.old }
+    ensures grants { M.grants memory.new ≡ M.grants memory.old }
+{
+    if dictionaries.len() >= 2 {
+        let upper = dictionary_above(dictionaries, 1);
+        let lower = dictionary_above(dictionaries, 0);
+        keep_cell(memory, upper, lower, word);
+    }
+}
+
+/// The value of a name by the general way. The memory is told where it stands, if one of the two
+/// lowest dictionaries has it.
+#[inline(never)]
+fn look_up_apart<M: Memory>(memory: &mut M, dictionaries: &Dictionaries, word: Word) -> Option<Word>
+    requires sound { IsSound (M.heap memory.old) }
+    requires dictionaries { AreValues (M.heap memory.old) dictionaries.now }
+    requires key { IsValue (M.heap memory.old) word }
+    ensures heap { M.heap memory.new ≡ M.heap memory.old }
+    ensures grants { M.grants memory.new ≡ M.grants memory.old }
+    ensures held { IfSome result (IsValue (M.heap memory.old)) }
+    ensures within { (names : List (List ℕ)) (s : Store) → Shows (M.heap memory.old) names s
+        → AreWithin (M.heap memory.old) names s dictionaries.now
+        → IfSome result (IsWithin (birth_at (M.heap memory.old)) names s) }
+    ensures value { IsValueOf (M.heap memory.old) dictionaries.now word result }
+{
+    tell_lowest(memory, dictionaries, word);
+    match look_up(memory, dictionaries, Some(word)) {
+        Ok(Some(found)) => Some(found.1),
+        Ok(None) => None,
+        Err(_) => None,
+    }
+}
+
+/// The value of a name that is executed, by the topmost dictionary that has it. None: none has it,
+/// or one that can't be read is come to first. The two lowest dictionaries are not asked where the
+/// memory knows what they have.
+#[inline(always)]
+pub fn look_up_name<M: Memory>(
+    memory: &mut M,
+    dictionaries: &Dictionaries,
+    word: Word,
+    name: u16,
+) -> Option<Word>
+    requires sound { IsSound (M.heap memory.old) }
+    requires dictionaries { AreValues (M.heap memory.old) dictionaries.now }
+    requires key { IsValue (M.heap memory.old) word }
+    requires name { content_in word.0 ≡ Content.Name name }
+    ensures heap { M.heap memory.new ≡ M.heap memory.old }
+    ensures grants { M.grants memory.new ≡ M.grants memory.old }
+    ensures held { IfSome result (IsValue (M.heap memory.old)) }
+    ensures within { (names : List (List ℕ)) (s : Store) → Shows (M.heap memory.old) names s
+        → AreWithin (M.heap memory.old) names s dictionaries.now
+        → IfSome result (IsWithin (birth_at (M.heap memory.old)) names s) }
+    ensures value { IsValueOf (M.heap memory.old) dictionaries.now word result }
+{
+    let mut below = dictionaries.len();
+    while below > 2 {
+        below -= 1;
+        let dictionary = dictionary_above(dictionaries, below);
+        match look_in(memory, dictionary, Some(word)) {
+            Ok(Some(value)) => return Some(value),
+            Ok(None) => {}
+            Err(_) => return None,
+        }
+    }
+    if below == 2 {
+        let upper = dictionary_above(dictionaries, 1);
+        let lower = dictionary_above(dictionaries, 0);
+        if let Some(value) = memory.known(upper, lower, name) {
+            return Some(value);
+        }
+    }
+    look_up_apart(memory, dictionaries, word)
 }

@@ -1,25 +1,25 @@
 -- A procedure is pushed, a name is treated as what is found, and all else as it is.
-use Rattle.std.proofs.Common.{Ok, refl, sym, ap, ◌∙◌}
+use Rattle.std.proofs.Common.{refl, sym, ap, ◌∙◌}
 use Rattle.ps_mem.specs.Shows.{IsValue}
 use Rattle.ps_ops_state.proofs.Lifts.{held}
 use Rattle.ps_step_execute.proofs.Alone.{literal_treated, name_treats, operator_treated, own_treats, procedure_comes}
 use Rattle.ps_step_execute.proofs.Alone.{treated_comes}
-use Rattle.ps_step_execute.proofs.Executing.{found_as, literal_unmade, literal_unnamed, name_unmade, named, made}
+use Rattle.ps_step_execute.proofs.Executing.{literal_unmade, literal_unnamed, name_unmade, named, made}
 use Rattle.ps_step_execute.proofs.Executing.{operator_unmade, operator_unnamed, unmade, unnamed}
 use Rattle.ps_step_execute.proofs.quick.do_quickly.Goals as goal
 
 pub operate_ahead-came-requires : goal.operate_ahead-came-requires
 operate_ahead-came-requires g c = record { ready = held c.requires.good.1 }
 
-pub look_up-requires-clause-sound : goal.look_up-requires-clause-sound
-look_up-requires-clause-sound g c = c.requires.good.1.sound
+pub look_up_name-requires-clause-sound : goal.look_up_name-requires-clause-sound
+look_up_name-requires-clause-sound g c = c.requires.good.1.sound
 
-pub look_up-requires-clause-dictionaries : goal.look_up-requires-clause-dictionaries
-look_up-requires-clause-dictionaries g c = c.requires.good.1.dictionaries
+pub look_up_name-requires-clause-dictionaries : goal.look_up_name-requires-clause-dictionaries
+look_up_name-requires-clause-dictionaries g c = c.requires.good.1.dictionaries
 
 pub treat_ahead-came-requires-clause-ready : goal.treat_ahead-came-requires-clause-ready
 treat_ahead-came-requires-clause-ready g c =
-    rw c.look_up.ensures.heap (held c.requires.good.1)
+    rw c.look_up_name.ensures.heap (held c.requires.good.1)
 
 pub returns-then-not-is_executable-clause-comes : goal.returns-then-not-is_executable-clause-comes
 returns-then-not-is_executable-clause-comes g c =
@@ -46,22 +46,23 @@ returns-in-Array-clause-comes g c =
     (sym c.content.ensures ∙ c.in-Array.is))
     (c.push_quickly-in-Array.ensures c.args.word)
 
-pub returns-in-Ok-Some-clause-comes : goal.returns-in-Ok-Some-clause-comes
-returns-in-Ok-Some-clause-comes g c =
+pub look_up_name-requires-clause-name : goal.look_up_name-requires-clause-name
+look_up_name-requires-clause-name g c = sym c.content-2.ensures ∙ c.in-Name.is
+
+pub returns-in-Some-look_up_name-clause-comes : goal.returns-in-Some-look_up_name-clause-comes
+returns-in-Some-look_up_name-clause-comes g c =
     let may = sym c.is_executable.ensures ∙ c.if-not-is_executable.false in
     let content = sym c.content-2.ensures ∙ c.in-Name.is in
-    let is = c.in-Ok-Some.is ∙ ap Ok c.in-Ok-Some.field-0-is in
     treated_comes g.O.Operate.asks (g.M.Memory.heap c.args.memory.now) c.args.dictionaries.now
     c.args.word c.args.operands.now c.treat_ahead-came.new.operands c.treat_ahead-came.result
-    c.in-Ok-Some.found.1 _ c.came_or-in-Name.ensures
-    (found_as (IsValue (g.M.Memory.heap c.args.memory.now)) c.look_up.result c.in-Ok-Some.found is
-    c.look_up.ensures.held)
+    c.in-Some-look_up_name.value _ c.came_or-in-Name.ensures c.in-Some-look_up_name.ensures.held
     (name_treats g.O.Operate.asks (g.M.Memory.heap c.args.memory.now) c.args.dictionaries.now
     c.args.word
     (λ births names. name_unmade c.args.word births names _ content may)
     (λ births names. named c.args.word births names _ may content)
-    c.look_up.result c.in-Ok-Some.found is c.look_up.ensures.value c.look_up.ensures.within)
-    (rw c.look_up.ensures.heap at (c.treat_ahead-came.ensures.comes c.args.word))
+    c.in-Some-look_up_name.value c.in-Some-look_up_name.ensures.value
+    c.in-Some-look_up_name.ensures.within)
+    (rw c.look_up_name.ensures.heap at (c.treat_ahead-came.ensures.comes c.args.word))
 
 pub returns-in_default-content-2 : goal.returns-in_default-content-2
 returns-in_default-content-2 g c =

@@ -3,6 +3,7 @@ use Rattle.std.specs.Prelude.{slice_get, slice_range}
 use Rattle.ps_mem.specs.Heap.{Heap, fields_at}
 use Rattle.ps_mem.specs.Marks.{AreMarked, IsMarked}
 use Rattle.ps_mem.proofs.MarkLemmas.{headed, marked-wider, marked-next, marked-all, marked-within, length-range, range_at}
+use Rattle.ps_mem.specs.Cells.{AreCellsOf}
 use Rattle.ps_mem.proofs.marked.Marked.mark_copied.Goals as goal
 
 pub returns-then-from-to-2-clause-marked : goal.returns-then-from-to-2-clause-marked
@@ -64,3 +65,15 @@ returns-clause-marked g c =
     let over = c.loop-index-test.false in
     marked-all h c.loop-index.self.marks.items.items a.to.address a.to.place items
     c.loop-index.index (omega (arith, long, over)) marked
+
+pub invariant_of-self-clause-tell : goal.invariant_of-self-clause-tell
+invariant_of-self-clause-tell g c =
+    let s = c.args.self.now in
+    subst (λ (h : Heap). AreCellsOf h s.cells.pair s.cells.items.items)
+    (sym c.header-header.ensures.heap) s.tell
+
+pub invariant_of-self-in-loop-index-clause-tell : goal.invariant_of-self-in-loop-index-clause-tell
+invariant_of-self-in-loop-index-clause-tell g c =
+    let s = c.loop-index.self in
+    subst (λ (h : Heap). AreCellsOf h s.cells.pair s.cells.items.items)
+    (sym c.load_at-word.ensures.heap) s.tell

@@ -1,7 +1,8 @@
-use Rattle.std.proofs.Common.{◌+◌, get_or, subst, ◌∙◌, arith}
+use Rattle.std.proofs.Common.{◌+◌, get_or, sym, subst, ◌∙◌, arith}
 use Rattle.ps_mem.specs.Heap.{Heap, zero_word}
 use Rattle.ps_mem.specs.Marks.{IsMarked}
 use Rattle.ps_mem.proofs.MarkLemmas.{headed, marked-wider, marked-next, marked-all, get_at}
+use Rattle.ps_mem.specs.Cells.{AreCellsOf}
 use Rattle.ps_mem.proofs.marked.Marked.mark_words.Goals as goal
 
 pub overflow_cast-index : goal.overflow_cast-index
@@ -48,3 +49,9 @@ returns-clause-marked g c =
     let (heap, grants, widens, marked) = c.loop-index.invariant in
     marked-all h c.loop-index.self.marks.items.items c.args.address c.args.place c.args.items.now
     c.loop-index.index c.loop-index-test.false marked
+
+pub invariant_of-self-clause-tell : goal.invariant_of-self-clause-tell
+invariant_of-self-clause-tell g c =
+    let s = c.args.self.now in
+    subst (λ (h : Heap). AreCellsOf h s.cells.pair s.cells.items.items)
+    (sym c.header-header.ensures.heap) s.tell

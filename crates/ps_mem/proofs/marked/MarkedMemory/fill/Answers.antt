@@ -1,6 +1,8 @@
 use Rattle.std.proofs.Common.{sym, subst, ◌≡◌, ◌∷◌, [], ◌∙◌, ap, arith}
 use Rattle.ps_mem.specs.Heap.{Heap, stored}
+use Rattle.ps_mem.specs.Cells.{AreCellsOf}
 use Rattle.ps_mem.specs.Marks.{Covers}
+use Rattle.ps_mem.proofs.CellLemmas.{cells-settled}
 use Rattle.ps_mem.proofs.MarkLemmas.{has_field, Covers-stored, one-marked}
 use Rattle.ps_mem.proofs.marked.MarkedMemory.fill.Goals as goal
 
@@ -21,8 +23,15 @@ invariant_of-self g c =
     let now : g.M.Memory.heap c.fill.new.self ≡ stored h c.args.address c.args.place (c.args.word ∷ []) =
     c.fill.ensures.heap
     ∙ ap (λ (k : Heap). stored k c.args.address c.args.place (c.args.word ∷ [])) c.mark_word.ensures.heap in
+    let tell : AreCellsOf h s.cells.pair s.cells.items.items =
+    subst (λ (k : Heap). AreCellsOf k s.cells.pair s.cells.items.items) c.mark_word.ensures.heap s.tell in
     record {
       covers = subst (λ (k : Heap). Covers k marks) (sym now)
           (Covers-stored h c.args.address c.args.place (c.args.word ∷ []) (omega arith) (omega (arith, place))
           marks covers (one-marked h marks c.args.address c.args.place c.args.word c.mark_word.ensures.marked));
+      tell = subst (λ (k : Heap). AreCellsOf k c.settle.new.self.pair c.settle.new.self.items.items)
+          (sym now)
+          (cells-settled h s.cells.pair c.settle.new.self.pair s.cells.items.items
+          c.settle.new.self.items.items c.args.address c.args.place (c.args.word ∷ []) tell
+          c.settle.ensures.pair c.settle.ensures.kept (omega (arith, place)));
     }

@@ -1,6 +1,8 @@
 use Rattle.std.proofs.Common.{sym, subst, ◌≡◌, ◌∙◌, ap, arith}
 use Rattle.ps_mem.specs.Heap.{Heap, stored}
+use Rattle.ps_mem.specs.Cells.{AreCellsOf}
 use Rattle.ps_mem.specs.Marks.{Covers}
+use Rattle.ps_mem.proofs.CellLemmas.{cells-settled}
 use Rattle.ps_mem.proofs.MarkLemmas.{has_field, Covers-stored}
 use Rattle.ps_mem.proofs.marked.MarkedMemory.store.Goals as goal
 
@@ -20,8 +22,15 @@ invariant_of-self g c =
     let now : g.M.Memory.heap c.store.new.self ≡ stored h c.args.address c.args.place c.args.items.now =
     c.store.ensures.heap
     ∙ ap (λ (k : Heap). stored k c.args.address c.args.place c.args.items.now) c.mark_stored.ensures.heap in
+    let tell : AreCellsOf h s.cells.pair s.cells.items.items =
+    subst (λ (k : Heap). AreCellsOf k s.cells.pair s.cells.items.items) c.mark_stored.ensures.heap s.tell in
     record {
       covers = subst (λ (k : Heap). Covers k marks) (sym now)
           (Covers-stored h c.args.address c.args.place c.args.items.now c.requires.some c.requires.place
           marks covers c.mark_stored.ensures.marked);
+      tell = subst (λ (k : Heap). AreCellsOf k c.settle.new.self.pair c.settle.new.self.items.items)
+          (sym now)
+          (cells-settled h s.cells.pair c.settle.new.self.pair s.cells.items.items
+          c.settle.new.self.items.items c.args.address c.args.place c.args.items.now tell
+          c.settle.ensures.pair c.settle.ensures.kept c.requires.place);
     }
