@@ -134,12 +134,17 @@ uint32_t tallowmarch_replay(const uint8_t *program, size_t length, const tallowm
                             size_t given_length, uint8_t *printed, size_t printed_room, tallowmarch_entry *schedule, size_t schedule_room,
                             tallowmarch_counts *counts);
 
-/* Memory of the host's own. The static library takes its memory by these three functions. It brings them, over malloc, realloc and free; a
- * program that is linked with it may define all three itself, and they are then called instead, on the thread that called the library. So a
- * host can count the memory of a run, bound it, or take it from a place of its own.
+/* Memory of the host's own. The library takes its memory by these three functions. It brings them, over malloc, realloc and free; a program
+ * that is linked with it, with the archive or with the shared object, may define all three itself, and they are then called instead, on the
+ * thread that called the library. So a host can count the memory of a run, bound it, or take it from a place of its own. A module that is
+ * loaded into a program, as by dlopen, gives its own functions to the library only where it is linked with the archive.
  *
- * A block is aligned to `align`, which is a power of two up to 16, and its size may be 0. Where `is_given` is 0 no block is given, `at` must
- * then be some pointer that is not NULL, and a block that was to be resized stays. rattle_dealloc is called once for each block that stands.
+ * A block is aligned to `align`, which is a power of two up to 16, and its `size` in bytes may be 0. Where `is_given` is 0 no block is given,
+ * `at` must then be some pointer that is not NULL, and a block that was to be resized stays.
+ *
+ * `old_size` are the first bytes of a block that are in use: the smaller of it and `size` has to be kept, and what lies behind may be lost. It
+ * is at most the size that was asked for, and mostly less: so a host that counts what it gave keeps the size itself, as in front of the block.
+ * rattle_dealloc is called once for each block that stands, and tells no size.
  */
 typedef struct tallowmarch_block {
     uint64_t is_given; /* 1 or 0 */

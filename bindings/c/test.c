@@ -22,18 +22,34 @@ static void count(int so, const char *what) {
 /* The allocations that the run on this thread may still make, those that it asked for, and the blocks that it holds. */
 static _Thread_local long left = 1L << 40, asked, standing;
 
+/* What a byte is that nothing promises to keep. */
+enum { POISON = 0xa5 };
+
+/* A block of poison. */
+static tallowmarch_block given(size_t size) {
+    void *at = malloc(size ? size : 1);
+    if (!at) return (tallowmarch_block){0, &left};
+    memset(at, POISON, size);
+    return (tallowmarch_block){1, at};
+}
+
 tallowmarch_block rattle_alloc(size_t size, size_t align) {
     asked++;
     if (align > 16 || left-- <= 0) return (tallowmarch_block){0, &left};
     standing++;
-    return (tallowmarch_block){1, malloc(size ? size : 1)};
+    return given(size);
 }
 
+/* Of a block that is resized just the bytes are kept that are in use, and what it was is poison behind. */
 tallowmarch_block rattle_realloc(void *at, size_t old_size, size_t size, size_t align) {
-    (void)old_size;
     asked++;
     if (align > 16 || left-- <= 0) return (tallowmarch_block){0, &left};
-    return (tallowmarch_block){1, realloc(at, size ? size : 1)};
+    tallowmarch_block block = given(size);
+    if (!block.is_given) return block;
+    memcpy(block.at, at, old_size < size ? old_size : size);
+    memset(at, POISON, old_size);
+    free(at);
+    return block;
 }
 
 void rattle_dealloc(void *at) {
