@@ -28,7 +28,8 @@ int main(int count, char **words) {
     for (int at = 0; at < calls; at++) {
         struct timespec from, to;
         clock_gettime(CLOCK_MONOTONIC, &from);
-        if (tallowmarch_run(program, length, &settings, printed, sizeof printed, schedule, 1 << 12, &counts) > TALLOWMARCH_FAULTED) return 1;
+        if (tallowmarch_run(program, length, TALLOWMARCH_NUMBERS(settings), printed, sizeof printed, schedule, 1 << 12,
+TALLOWMARCH_NUMBERS(counts)) > TALLOWMARCH_FAULTED) return 1;
         clock_gettime(CLOCK_MONOTONIC, &to);
         took[at] = (double)(to.tv_sec - from.tv_sec) * 1e6 + (double)(to.tv_nsec - from.tv_nsec) / 1e3;
     }

@@ -23,7 +23,8 @@ static void *run(void *given) {
     uint8_t printed[1];
     tallowmarch_entry schedule[1];
     tallowmarch_counts counts;
-    call->code = tallowmarch_run(call->program, call->length, &call->settings, printed, 0, schedule, 0, &counts);
+    call->code = tallowmarch_run(call->program, call->length, TALLOWMARCH_NUMBERS(call->settings), printed, 0, schedule, 0,
+                                 TALLOWMARCH_NUMBERS(counts));
     return NULL;
 }
 

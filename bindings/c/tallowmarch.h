@@ -3,11 +3,12 @@
  * A call runs a program from its beginning to its end, or to the end of its budget of steps, and then hands out what the program printed,
  * the schedule of its contexts, and counts. What was printed is proved to be what the definition of the language says of that schedule.
  *
- * State.    A call keeps nothing: there is nothing to open, to free or to close, and calls don't see one another. It reads no file, no
- *           clock and no variable of the environment, and prints nothing.
+ * State.    A call keeps nothing, but for a run that stands in a handle of the host's (`tallowmarch_start`): else there is nothing to open,
+ *           to free or to close, and calls don't see one another. It reads no file, no clock and no variable of the environment, and
+ *           prints nothing.
  * Threads.  Any number of threads may call at once, each with rooms of its own. A call starts no thread, takes no lock and never waits.
  * Time.     A call makes at most `steps` steps of the program, and those that it is given, and returns then. It can't be interrupted: a host
- *           that looks at a clock makes a run of a small budget, and goes on from it (`tallowmarch_go_on`).
+ *           that looks at a clock makes slices of a run that stands, and looks between them (`tallowmarch_advance`).
  * Memory.   All that a call takes from malloc it gives back before it returns. Where memory is refused to it, it says so by its code,
  *           and loses nothing. A host may give the memory itself: see the end of this file.
  * Stack.    Allow a call 256 KiB of its thread's stack: the deepest that was measured touched 149. No proof speaks of it.
@@ -30,7 +31,7 @@ extern "C" {
 #endif
 
 /* The version of this header: 10000 for each major number, 100 for each minor one, 1 for each patch. */
-#define TALLOWMARCH_VERSION 300
+#define TALLOWMARCH_VERSION 400
 
 /* What a call returns. Below 16 there was a run: its bytes, entries and counts are handed out. From 16 on there was none, and the rooms and
  * the counts are as they were. The codes of runs are the exit statuses of dpsrun.
@@ -45,8 +46,28 @@ enum tallowmarch_code {
     TALLOWMARCH_OUT_OF_RANGE = 16, /* `space`, `quantum` or `steps` is out of its range */
     TALLOWMARCH_NO_ROOM = 17,      /* no memory to start with */
     TALLOWMARCH_OTHER_SCHEDULE = 18, /* the schedule to go on from isn't that of a run of this program by these settings */
-    TALLOWMARCH_BAD_ENTRY = 19     /* an entry of the given schedule is none: its context or its steps are 0, or it shows a pair below 1 */
+    TALLOWMARCH_BAD_ENTRY = 19,    /* an entry of the given schedule is none: its context or its steps are 0, or it shows a pair below 1 */
+    TALLOWMARCH_CLOSED = 20,       /* no run stands in the handle */
+    TALLOWMARCH_OPEN = 21          /* a run stands in the handle already */
 };
+
+/* What a code says, in a few words that stand for ever: "a code of another version" where this header doesn't know it. */
+static inline const char *tallowmarch_code_text(uint32_t code) {
+    switch (code) {
+    case TALLOWMARCH_FINISHED: return "finished";
+    case TALLOWMARCH_FAULTED: return "finished with an error";
+    case TALLOWMARCH_ALL_WAITING: return "waits for ever";
+    case TALLOWMARCH_STEPS_OUT: return "stopped: its steps were used up";
+    case TALLOWMARCH_MEMORY: return "stopped: its memory, output or entries were used up";
+    case TALLOWMARCH_OUT_OF_RANGE: return "a number of the settings is out of its range";
+    case TALLOWMARCH_NO_ROOM: return "out of memory";
+    case TALLOWMARCH_OTHER_SCHEDULE: return "the schedule is not that of a run by these settings";
+    case TALLOWMARCH_BAD_ENTRY: return "an entry of the schedule is none";
+    case TALLOWMARCH_CLOSED: return "no run stands in the handle";
+    case TALLOWMARCH_OPEN: return "a run stands in the handle already";
+    default: return "a code of another version";
+    }
+}
 
 /* Two numbers that who wrote the program can't guess, as from getentropy: with them it can't make the table of names slow. They change nothing
  * of what is printed, and may be the same for each run where the programs are one's own.
@@ -56,12 +77,15 @@ typedef struct tallowmarch_keys {
     uint64_t second;
 } tallowmarch_keys;
 
-/* What is asked for. */
+/* What is asked for: numbers in this order, and a later version has more of them behind these. A call is told how many of them its host knows, and
+ * takes the usual ones of TALLOWMARCH_SETTINGS for the others. So a host that was compiled against an older header goes on working; and one that
+ * asks an older library for what that doesn't know gets TALLOWMARCH_OUT_OF_RANGE, where the number isn't 0.
+ */
 typedef struct tallowmarch_settings {
-    uint32_t space;   /* the words, of 8 bytes, that the program's objects may take: 4096 to 1048576 */
-    uint32_t quantum; /* the most steps of a context's turn: 1 to 65535 */
-    uint32_t steps;   /* the most steps of the run: at least 1 */
-    uint32_t plain;   /* 0: the space is collected while the program runs. Else: memory that grows and is never collected, where `space` is
+    uint64_t space;   /* the words, of 8 bytes, that the program's objects may take: 4096 to 1048576 */
+    uint64_t quantum; /* the most steps of a context's turn: 1 to 65535 */
+    uint64_t steps;   /* the most steps of the run: 1 to 4294967295 */
+    uint64_t plain;   /* 0: the space is collected while the program runs. Else: memory that grows and is never collected, where `space` is
                          not used, but must be in its range */
     uint64_t output;  /* the most bytes that the run may print; 0: no bound. A step that would print past it is not made, and ends the run */
     uint64_t entries; /* the most entries that the run's schedule may have; 0: no bound. A step that wants one more is not made, and ends the
@@ -86,7 +110,9 @@ typedef struct tallowmarch_entry {
     int32_t size;     /* the words that there are: from 1, if they are shown */
 } tallowmarch_entry;
 
-/* How much a run came to, whatever there was room for. */
+/* How much a run came to, whatever there was room for: numbers in this order, of which a call writes as many as its host knows, and leaves what it
+ * doesn't know itself.
+ */
 typedef struct tallowmarch_counts {
     uint64_t bytes;   /* the bytes that it printed */
     uint64_t entries; /* the entries of its schedule */
@@ -95,48 +121,115 @@ typedef struct tallowmarch_counts {
     uint64_t taken;   /* the stores that the collector had to follow; 0 without a collector */
 } tallowmarch_counts;
 
-/* The version of the library. A host that finds another one than its header's must not call it. */
+/* Settings, or counts, as a call takes them: where their numbers stand, and how many they are. */
+#define TALLOWMARCH_NUMBERS(of) (uint64_t *)&(of), sizeof(of) / sizeof(uint64_t)
+
+/* The version of the library. A host must not call one that isn't of its header's first number; where that is 0, not of its second one either. */
 uint32_t tallowmarch_version(void);
 
-/* Runs a program of `length` bytes.
+/* Whether a library of a version is one for a host that was compiled with this header. */
+static inline int tallowmarch_fits(uint32_t version) {
+    return version / 10000 == TALLOWMARCH_VERSION / 10000 && (version >= 10000 || version / 100 == TALLOWMARCH_VERSION / 100);
+}
+
+/* Runs a program of `length` bytes, by so many numbers of settings: `TALLOWMARCH_NUMBERS(settings)` gives both.
  *
- * Of the bytes that it prints the first are written to `printed`, as many as it has room for; `counts->bytes` tells how many there were, also
- * where that is more. What lies behind the last one that is written stays. The same holds of the entries, of `schedule` and of
- * `counts->entries`; both rooms are counted in items, and may be 0 items large.
+ * Of the bytes that it prints the first are written to `printed`, as many as it has room for; `bytes` of the counts tells how many there were,
+ * also where that is more. What lies behind the last one that is written stays. The same holds of the entries, of `schedule` and of `entries`.
+ * The rooms are counted in items, and may be 0 items large, that of the counts too.
  *
  * The same program with the same settings makes the same run, whatever the keys, as long as no memory is refused. So where a room was too
  * small the call may be made again with a larger one.
  */
-uint32_t tallowmarch_run(const uint8_t *program, size_t length, const tallowmarch_settings *settings, uint8_t *printed, size_t printed_room,
-                         tallowmarch_entry *schedule, size_t schedule_room, tallowmarch_counts *counts);
+uint32_t tallowmarch_run(const uint8_t *program, size_t length, const uint64_t *settings, size_t settings_known, uint8_t *printed,
+                         size_t printed_room, tallowmarch_entry *schedule, size_t schedule_room, uint64_t *counts, size_t counts_room);
 
 /* Goes on from a schedule of `given_length` entries, which a run of the same program by the same settings was handed: makes a run that begins
- * with its steps and has at most `settings->steps` more behind them, up to 4294967295 together. What is handed out is that whole run, from its
- * start; so it prints what the given run did, and then more. `output` and `entries` may be larger than before, and `keys` may be others; with another
- * `quantum` or `space` it goes on as far as what steps are shown and refused stays the same. The given steps are made again: where a host doubles
- * its budgets, all calls together make at most some three times the steps of the last one.
+ * with its steps and has at most `steps` of the settings more behind them, up to 4294967295 together. What is handed out is that whole run,
+ * from its start; so it prints what the given run did, and then more. `output` and `entries` may be larger than before, and `keys` may be
+ * others; with another `quantum` or `space` it goes on as far as what steps are shown and refused stays the same. The given steps are made
+ * again: where a host doubles its budgets, all calls together make at most some three times the steps of the last one.
  *
  * With TALLOWMARCH_MEMORY memory may have been wanted before all given steps were made: then as many are handed out. With
  * TALLOWMARCH_OTHER_SCHEDULE the run didn't begin with them. That is told when it is over, after as many steps as were asked for at most. With
  * TALLOWMARCH_BAD_ENTRY one of the entries is none, and no step was made.
  */
-uint32_t tallowmarch_go_on(const uint8_t *program, size_t length, const tallowmarch_settings *settings, const tallowmarch_entry *given,
+uint32_t tallowmarch_go_on(const uint8_t *program, size_t length, const uint64_t *settings, size_t settings_known, const tallowmarch_entry *given,
                            size_t given_length, uint8_t *printed, size_t printed_room, tallowmarch_entry *schedule, size_t schedule_room,
-                           tallowmarch_counts *counts);
+                           uint64_t *counts, size_t counts_room);
 
 /* Follows a schedule of `given_length` entries, from a run of the same program by whatever settings, over memory that grows and is never
  * collected. It prints what that run printed. Of the settings here only `output` and `keys` count. The schedule that is handed out is the given
  * one; or, with TALLOWMARCH_MEMORY, as much of it as was followed. Steps of contexts that aren't ready are passed over. The code is
- * TALLOWMARCH_STEPS_OUT where a context is ready at the end, and TALLOWMARCH_BAD_ENTRY where one of the entries is none, but never
- * TALLOWMARCH_OUT_OF_RANGE. A call takes time for each step of the schedule that a context makes.
+ * TALLOWMARCH_STEPS_OUT where a context is ready at the end, and TALLOWMARCH_BAD_ENTRY where one of the entries is none. It is
+ * TALLOWMARCH_OUT_OF_RANGE only where one of the first three settings has more than 32 bits, or one that isn't known isn't 0. A call takes
+ * time for each step of the schedule that a context makes.
  */
-uint32_t tallowmarch_replay(const uint8_t *program, size_t length, const tallowmarch_settings *settings, const tallowmarch_entry *given,
+uint32_t tallowmarch_replay(const uint8_t *program, size_t length, const uint64_t *settings, size_t settings_known, const tallowmarch_entry *given,
                             size_t given_length, uint8_t *printed, size_t printed_room, tallowmarch_entry *schedule, size_t schedule_room,
-                            tallowmarch_counts *counts);
+                            uint64_t *counts, size_t counts_room);
+
+/* A run that stands between calls: start it, make slices of it, look at what it came to, and close it.
+ *
+ * A handle is a struct of the host's: {0} at first, and after tallowmarch_close. A run that stands is a block of memory that the handle
+ * owns, with all that the block refers to. So while one stands
+ *   - the handle is neither copied nor written to, and it isn't dropped without tallowmarch_close: else all of the run's memory is lost;
+ *   - it is given to one call at a time. It may be handed from thread to thread, as under a lock or by a join;
+ *   - the program's bytes aren't needed any more: the run has a copy.
+ */
+typedef struct tallowmarch_standing {
+    void *at;      /* the library's */
+    uint32_t full; /* 0 where no run stands; the library's */
+} tallowmarch_standing;
+
+#define TALLOWMARCH_STANDING {NULL, 0}
+
+/* Starts a run, and makes no step of it. 0: it stands. TALLOWMARCH_OPEN: a run stands there already, and goes on standing. With
+ * TALLOWMARCH_OUT_OF_RANGE and TALLOWMARCH_NO_ROOM none stands. Of the settings `plain` must be 0, and `steps` at least 1; it isn't looked at
+ * otherwise, since each slice has steps of its own. `output` and `entries` bound the whole run.
+ */
+uint32_t tallowmarch_start(const uint8_t *program, size_t length, const uint64_t *settings, size_t settings_known, tallowmarch_standing *run);
+
+/* Makes a slice: at most `steps` steps more, up to 4294967295 in all. The code is that of the whole run, as if it ended here: with
+ * TALLOWMARCH_STEPS_OUT it may go on, with TALLOWMARCH_MEMORY it tries again what memory was refused to, and with those below the next slice
+ * tells the same. What the run prints, and its schedule, don't depend on where slices lie: a turn that a slice ends in goes on with the next.
+ * TALLOWMARCH_OUT_OF_RANGE: `steps` is 0. TALLOWMARCH_CLOSED: no run stands.
+ */
+uint32_t tallowmarch_advance(tallowmarch_standing *run, uint32_t steps);
+
+/* Makes slices of `slice` steps until `steps` are made in all, until the run comes to another end, or until `*stop` isn't 0 behind one of them: another
+ * thread, or a signal handler, may set it at any time, as by `__atomic_store_n(stop, 1, __ATOMIC_RELAXED)`. One slice is made in any case. The codes are
+ * those of tallowmarch_advance; of a run that was stopped it is TALLOWMARCH_STEPS_OUT, and it may go on.
+ */
+static inline uint32_t tallowmarch_advance_until(tallowmarch_standing *run, uint32_t steps, uint32_t slice, const int *stop) {
+    uint32_t code;
+    do {
+        const uint32_t now = steps < slice ? steps : slice;
+        code = tallowmarch_advance(run, now);
+        steps -= now;
+    } while (code == TALLOWMARCH_STEPS_OUT && steps > 0 && !__atomic_load_n(stop, __ATOMIC_RELAXED));
+    return code;
+}
+
+/* Writes the bytes that the run printed from the place `from` on to `room`, as many as there is room for, and tells how many it printed in all so
+ * far: 0 where no run stands. So a host that took so many bytes asks with their number for those behind them.
+ */
+size_t tallowmarch_printed(tallowmarch_standing *run, size_t from, uint8_t *room, size_t count);
+
+/* Writes the entries of the run's schedule from the place `from` on, as many as there is room for, and tells how many there are in all so far: 0
+ * where no run stands. The next slice may add steps to the last of them: take it again from its place on. A call takes time for each entry before.
+ */
+size_t tallowmarch_entries(tallowmarch_standing *run, size_t from, tallowmarch_entry *room, size_t count);
+
+/* Tells how much the run came to so far, and 0. TALLOWMARCH_CLOSED: no run stands, and nothing is written. */
+uint32_t tallowmarch_counts_of(tallowmarch_standing *run, uint64_t *counts, size_t counts_room);
+
+/* Gives all memory of the run back. No run stands then; where none stood nothing happens. */
+void tallowmarch_close(tallowmarch_standing *run);
 
 /* Memory of the host's own. The library takes its memory by these three functions. It brings them, over malloc, realloc and free; a program
  * that is linked with it, with the archive or with the shared object, may define all three itself, and they are then called instead, on the
- * thread that called the library. So a host can count the memory of a run, bound it, or take it from a place of its own. A module that is
+ * thread that called the library. So a host can count the memory of a run, bound it (tallowmarch_quota.h does), or take it from a place of its own. A module that is
  * loaded into a program, as by dlopen, gives its own functions to the library only where it is linked with the archive.
  *
  * A block is aligned to `align`, which is a power of two up to 16, and its `size` in bytes may be 0. Where `is_given` is 0 no block is given,

@@ -87,7 +87,8 @@ struct made {
 
 static void run_in(struct made *made, const char *text, tallowmarch_settings settings, size_t bytes, size_t entries) {
     memset(made, 0x5a, sizeof *made);
-    made->code = tallowmarch_run((const uint8_t *)text, strlen(text), &settings, made->printed, bytes, made->schedule, entries, &made->counts);
+    made->code = tallowmarch_run((const uint8_t *)text, strlen(text), TALLOWMARCH_NUMBERS(settings), made->printed, bytes, made->schedule, entries,
+                                 TALLOWMARCH_NUMBERS(made->counts));
 }
 
 static int is_untouched(const void *at, size_t size) {
@@ -116,7 +117,8 @@ static void codes(struct made *made) {
     run_in(made, "(so far) = {} loop", settings, BYTES, ENTRIES);
     count(prints(made, TALLOWMARCH_STEPS_OUT, "so far\n") && made->counts.steps == 1000, "steps that are used up");
     const tallowmarch_settings wrong[] = {{4095, 1, 1, 0, 0, 0, {0, 0}}, {1048577, 1, 1, 1, 0, 0, {0, 0}}, {4096, 0, 1, 0, 0, 1, {0, 0}},
-                                          {4096, 65536, 1, 1, 0, 0, {0, 0}}, {4096, 1, 0, 0, 1, 0, {0, 0}}};
+                                          {4096, 65536, 1, 1, 0, 0, {0, 0}}, {4096, 1, 0, 0, 1, 0, {0, 0}},
+                                          {4096, 1, 1ull << 32, 0, 0, 0, {0, 0}}, {(1ull << 32) + 4096, 1, 1, 1, 0, 0, {0, 0}}};
     for (size_t at = 0; at < sizeof wrong / sizeof *wrong; at++) {
         run_in(made, "1 =", wrong[at], BYTES, ENTRIES);
         count(is_refused(made, TALLOWMARCH_OUT_OF_RANGE), "a number out of its range");
@@ -129,6 +131,42 @@ static void codes(struct made *made) {
         count(is_refused(made, TALLOWMARCH_NO_ROOM), "no room to start with");
     }
     count(tallowmarch_version() == TALLOWMARCH_VERSION, "the version");
+    count(!strcmp(tallowmarch_code_text(TALLOWMARCH_MEMORY), "stopped: its memory, output or entries were used up"), "the text of a code");
+    count(!strcmp(tallowmarch_code_text(UINT32_MAX), "a code of another version"), "the text of no code");
+}
+
+/* Hosts that know fewer numbers than the library, and more. */
+static void versions(struct made *made) {
+    static const uint8_t status[] = "vmstatus = pop pop";
+    uint64_t numbers[10] = {4096, 100, 1000, 0, 0, 0, 1, 2, 0, 0}, counts[8];
+    tallowmarch_settings usual = TALLOWMARCH_SETTINGS;
+    for (size_t known = 0; known <= 10; known++) {
+        memset(made, 0x5a, sizeof *made);
+        made->code = tallowmarch_run(status, sizeof status - 1, numbers, known, made->printed, BYTES, made->schedule, ENTRIES,
+                                     TALLOWMARCH_NUMBERS(made->counts));
+        count(prints(made, TALLOWMARCH_FINISHED, known ? "4096\n" : "65536\n"), "settings of which some are known");
+    }
+    count(usual.space == 65536 && usual.quantum == 100 && usual.steps == UINT32_MAX, "the usual settings");
+    for (size_t at = 8; at < 10; at++) {
+        numbers[at] = 1;
+        for (size_t known = 8; known <= 10; known++) {
+            memset(made, 0x5a, sizeof *made);
+            made->code = tallowmarch_run(status, sizeof status - 1, numbers, known, made->printed, BYTES, made->schedule, ENTRIES,
+                                         TALLOWMARCH_NUMBERS(made->counts));
+            count(known > at ? is_refused(made, TALLOWMARCH_OUT_OF_RANGE) : prints(made, TALLOWMARCH_FINISHED, "4096\n"),
+                  "a setting of a later version");
+        }
+        numbers[at] = 0;
+    }
+    for (size_t known = 0; known <= 8; known++) {
+        memset(counts, 0x5a, sizeof counts);
+        uint32_t code = tallowmarch_run(status, sizeof status - 1, numbers, 8, made->printed, BYTES, made->schedule, ENTRIES, counts, known);
+        size_t written = known < 5 ? known : 5;
+        count(code == TALLOWMARCH_FINISHED && (!known || counts[0] == 5) && is_untouched(counts + written, sizeof counts - 8 * written),
+              "counts of which some are known");
+    }
+    count(tallowmarch_fits(TALLOWMARCH_VERSION) && tallowmarch_fits(TALLOWMARCH_VERSION + 1) && !tallowmarch_fits(TALLOWMARCH_VERSION + 100) &&
+              !tallowmarch_fits(TALLOWMARCH_VERSION + 10000) && !tallowmarch_fits(300), "versions that fit one another");
 }
 
 /* A bound on the output: what just fits is printed whole, and a step that would print a byte more ends the run. */
@@ -143,8 +181,9 @@ static void outputs(struct made *made) {
         settings.output = 12;
         run_in(made, "(12345) = (123456) =", settings, BYTES, ENTRIES);
         count(prints(made, TALLOWMARCH_MEMORY, "12345\n") && made->counts.steps < whole.counts.steps, "a byte too much");
-        made->code = tallowmarch_replay((const uint8_t *)"(12345) = (123456) =", 20, &settings, whole.schedule, whole.counts.entries, made->printed, BYTES,
-                                        made->schedule, ENTRIES, &made->counts);
+        made->code = tallowmarch_replay((const uint8_t *)"(12345) = (123456) =", 20, TALLOWMARCH_NUMBERS(settings), whole.schedule,
+                                        whole.counts.entries, made->printed, BYTES,
+                                        made->schedule, ENTRIES, TALLOWMARCH_NUMBERS(made->counts));
         count(prints(made, TALLOWMARCH_MEMORY, "12345\n"), "a replay of a byte too much");
         settings.output = UINT64_MAX;
         run_in(made, "{(0123456789) print} loop", settings, BYTES, ENTRIES);
@@ -197,7 +236,8 @@ static void replays(struct made *made) {
     const size_t entries = whole.counts.entries;
     for (size_t given = 0; given <= entries; given += given < 2 ? 1 : entries - 2 > given ? entries - 2 - given : 1) {
         memset(made, 0x5a, sizeof *made);
-        made->code = tallowmarch_replay(program, strlen(contexts), &any, whole.schedule, given, made->printed, BYTES, made->schedule, ENTRIES, &made->counts);
+        made->code = tallowmarch_replay(program, strlen(contexts), TALLOWMARCH_NUMBERS(any), whole.schedule, given, made->printed, BYTES,
+                                        made->schedule, ENTRIES, TALLOWMARCH_NUMBERS(made->counts));
         count(made->code == (given == entries ? TALLOWMARCH_FINISHED : TALLOWMARCH_STEPS_OUT) && made->counts.entries == given &&
                   !memcmp(made->schedule, whole.schedule, given * sizeof(tallowmarch_entry)), "a replay of a part");
         count(made->counts.bytes <= whole.counts.bytes && !memcmp(made->printed, whole.printed, made->counts.bytes), "the bytes of a replay");
@@ -205,7 +245,8 @@ static void replays(struct made *made) {
     }
     count(prints(made, TALLOWMARCH_FINISHED, "600\n") && made->counts.steps == whole.counts.steps, "a whole replay");
     const tallowmarch_entry nobody[] = {{7, 4000000000u, 2, 0x100, 1, INT32_MAX}, {UINT32_MAX, 3, 0, 0, 0, -6}};
-    made->code = tallowmarch_replay(program, strlen(contexts), &any, nobody, 2, made->printed, BYTES, made->schedule, ENTRIES, &made->counts);
+    made->code = tallowmarch_replay(program, strlen(contexts), TALLOWMARCH_NUMBERS(any), nobody, 2, made->printed, BYTES, made->schedule, ENTRIES,
+                                    TALLOWMARCH_NUMBERS(made->counts));
     const tallowmarch_entry first = {7, 4000000000u, 1, 1, 1, INT32_MAX}, second = {UINT32_MAX, 3, 0, 0, 0, 0};
     count(made->code == TALLOWMARCH_STEPS_OUT && made->counts.steps == 4000000003u && !memcmp(made->schedule, &first, sizeof first) &&
               !memcmp(made->schedule + 1, &second, sizeof second), "steps of contexts that there aren't");
@@ -214,8 +255,9 @@ static void replays(struct made *made) {
 static void go_on_in(struct made *made, const char *text, tallowmarch_settings settings, const tallowmarch_entry *given, size_t given_length, size_t bytes,
                      size_t entries) {
     memset(made, 0x5a, sizeof *made);
-    made->code = tallowmarch_go_on((const uint8_t *)text, strlen(text), &settings, given, given_length, made->printed, bytes, made->schedule, entries,
-                                   &made->counts);
+    made->code = tallowmarch_go_on((const uint8_t *)text, strlen(text), TALLOWMARCH_NUMBERS(settings), given, given_length, made->printed, bytes,
+                                   made->schedule, entries,
+                                   TALLOWMARCH_NUMBERS(made->counts));
 }
 
 /* A run that was cut behind so many steps, and gone on from, is the one that wasn't cut. */
@@ -307,7 +349,8 @@ static void bad_entries(struct made *made) {
             go_on_in(made, "1 =", any, given, 2, BYTES, ENTRIES);
             count(is_refused(made, TALLOWMARCH_OUT_OF_RANGE), "a number out of its range before an entry that is none");
             memset(made, 0x5a, sizeof *made);
-            made->code = tallowmarch_replay((const uint8_t *)"1 =", 3, &any, given, 2, made->printed, BYTES, made->schedule, ENTRIES, &made->counts);
+            made->code = tallowmarch_replay((const uint8_t *)"1 =", 3, TALLOWMARCH_NUMBERS(any), given, 2, made->printed, BYTES, made->schedule,
+                                            ENTRIES, TALLOWMARCH_NUMBERS(made->counts));
             count(is_refused(made, TALLOWMARCH_BAD_ENTRY), "a replay of an entry that is none");
         }
     }
@@ -355,17 +398,20 @@ static void refusals(struct made *made, uint32_t plain) {
     settings.plain = plain;
     run_in(&whole, text, settings, BYTES, ENTRIES);
     const size_t given[] = {0, whole.counts.entries / 2, whole.counts.entries};
-    uint32_t (*const calls[])(const uint8_t *, size_t, const tallowmarch_settings *, const tallowmarch_entry *, size_t, uint8_t *, size_t, tallowmarch_entry *,
-                              size_t, tallowmarch_counts *) = {NULL, tallowmarch_go_on, tallowmarch_replay};
+    uint32_t (*const calls[])(const uint8_t *, size_t, const uint64_t *, size_t, const tallowmarch_entry *, size_t, uint8_t *, size_t,
+                              tallowmarch_entry *, size_t, uint64_t *, size_t) = {NULL, tallowmarch_go_on, tallowmarch_replay};
+    const uint8_t *program = (const uint8_t *)text;
     for (int which = 0; which < 3; which++) {
         long others = 0, lost = 0, differ = 0, few = 0;
         for (long at = 0; at < 100000; at++) {
             memset(made, 0x5a, sizeof *made);
             left = at;
             asked = standing = 0;
-            made->code = calls[which] ? calls[which]((const uint8_t *)text, strlen(text), &settings, whole.schedule, given[which], made->printed, BYTES,
-                                                     made->schedule, ENTRIES, &made->counts)
-                                      : tallowmarch_run((const uint8_t *)text, strlen(text), &settings, made->printed, BYTES, made->schedule, ENTRIES, &made->counts);
+            made->code = calls[which] ? calls[which](program, strlen(text), TALLOWMARCH_NUMBERS(settings), whole.schedule, given[which],
+made->printed,
+                                                     BYTES, made->schedule, ENTRIES, TALLOWMARCH_NUMBERS(made->counts))
+                                      : tallowmarch_run(program, strlen(text), TALLOWMARCH_NUMBERS(settings), made->printed, BYTES, made->schedule,
+                                                        ENTRIES, TALLOWMARCH_NUMBERS(made->counts));
             lost += standing != 0;
             if (asked <= at) break;
             if (made->code == TALLOWMARCH_NO_ROOM) {
@@ -405,6 +451,7 @@ static void threads(void) {
 int main(void) {
     static struct made made;
     codes(&made);
+    versions(&made);
     outputs(&made);
     few_entries(&made);
     rooms(&made);

@@ -3,6 +3,11 @@
 //     tallowmarch::Report report = tallowmarch::Run("1 2 add =").space(4096).run();
 //     std::cout << report.printed;
 //
+// A run also stands between calls, which make slices of it:
+//
+//     tallowmarch::Standing script = tallowmarch::Run(text).start();
+//     while (script.advance(1000) == tallowmarch::Outcome::steps_out) std::cout << script.take();
+//
 // Nothing is shared between calls: any number of threads may run programs at once. All memory is the objects' own, and goes with them. A call
 // blocks its thread until the program ended or its budget of steps is used up.
 #ifndef TALLOWMARCH_HPP
@@ -11,6 +16,8 @@
 #include "tallowmarch.h"
 
 #include <algorithm>
+#include <atomic>
+#include <cstddef>
 #include <cstdint>
 #include <random>
 #include <stdexcept>
@@ -29,31 +36,31 @@ enum class Outcome {
     memory = TALLOWMARCH_MEMORY             // memory was refused, or more was to be printed or scheduled than may be; the report has what was made so far
 };
 
-// Why there is no run: `code` is TALLOWMARCH_OUT_OF_RANGE, TALLOWMARCH_NO_ROOM, TALLOWMARCH_OTHER_SCHEDULE or TALLOWMARCH_BAD_ENTRY, and 0 where
-// the library is of another version.
+// Why there is no run: `code` is TALLOWMARCH_OUT_OF_RANGE, TALLOWMARCH_NO_ROOM, TALLOWMARCH_OTHER_SCHEDULE, TALLOWMARCH_BAD_ENTRY or
+// TALLOWMARCH_CLOSED, and 0 where the library is of another version.
 class Error : public std::runtime_error {
 public:
-    explicit Error(std::uint32_t code) : std::runtime_error(text_of(code)), code_(code) {}
+    explicit Error(std::uint32_t code)
+        : std::runtime_error(std::string("tallowmarch: ") + (code ? tallowmarch_code_text(code) : "the library is of another version")), code_(code) {}
 
     std::uint32_t code() const noexcept { return code_; }
 
 private:
-    static const char *text_of(std::uint32_t code) {
-        switch (code) {
-        case TALLOWMARCH_OUT_OF_RANGE: return "tallowmarch: a number of the settings is out of its range";
-        case TALLOWMARCH_NO_ROOM: return "tallowmarch: out of memory";
-        case TALLOWMARCH_OTHER_SCHEDULE: return "tallowmarch: the schedule is not that of a run by these settings";
-        case TALLOWMARCH_BAD_ENTRY: return "tallowmarch: an entry of the schedule is none";
-        default: return "tallowmarch: the library is of another version";
-        }
-    }
-
     std::uint32_t code_;
 };
 
 // Neighbouring steps of one context, and which context made each step of a run: the fields are those of tallowmarch.h.
 using Entry = tallowmarch_entry;
 using Schedule = std::vector<Entry>;
+
+// How much a run came to so far.
+struct Counts {
+    std::uint64_t bytes = 0;    // the bytes that it printed
+    std::uint64_t entries = 0;  // the entries of its schedule
+    std::uint64_t steps = 0;    // its steps
+    std::uint64_t flips = 0;    // the collector's cycles
+    std::uint64_t taken = 0;    // the stores that the collector had to follow
+};
 
 // What a run came to.
 struct Report {
@@ -67,18 +74,28 @@ struct Report {
 
 namespace detail {
 
+// Throws where the library is of another version than this header.
+inline void fit() {
+    if (!tallowmarch_fits(tallowmarch_version())) throw Error(0);
+}
+
 inline const std::uint8_t *bytes_of(const std::string &text) { return reinterpret_cast<const std::uint8_t *>(text.data()); }
 
+// The rooms that a call is given first, in items.
+struct Rooms {
+    std::size_t bytes = 16384, entries = 1024;
+};
+
 // Calls with rooms of which each is large enough: where one wasn't, the call is made again, which comes to the same run.
-template <class Call> Report with_rooms(Call call) {
-    if (tallowmarch_version() != TALLOWMARCH_VERSION) throw Error(0);
+template <class Call> Report with_rooms(Rooms first, Call call) {
+    fit();
     Report report;
-    report.printed.resize(4096);
-    report.schedule.resize(256);
+    report.printed.resize(first.bytes);
+    report.schedule.resize(std::max<std::size_t>(first.entries, 1));
     for (;;) {
         tallowmarch_counts counts{};
         auto *room = reinterpret_cast<std::uint8_t *>(report.printed.data());
-        const std::uint32_t code = call(room, report.printed.size(), report.schedule.data(), report.schedule.size(), &counts);
+        const std::uint32_t code = call(room, report.printed.size(), report.schedule.data(), report.schedule.size(), counts);
         if (code >= TALLOWMARCH_OUT_OF_RANGE) throw Error(code);
         if (counts.bytes <= report.printed.size() && counts.entries <= report.schedule.size()) {
             report.printed.resize(counts.bytes);
@@ -104,6 +121,90 @@ inline tallowmarch_keys random_keys() {
 
 }  // namespace detail
 
+// A run that stands between calls: `advance` makes a slice of it, `take` gives what was printed since. It is moved and not copied, belongs to
+// one call at a time from whatever thread, and gives all its memory back where it ends. `Run::start` starts one.
+class Standing {
+public:
+    Standing(Standing &&other) noexcept : run_(std::exchange(other.run_, {})), taken_(std::exchange(other.taken_, 0)) {}
+
+    Standing &operator=(Standing &&other) noexcept {
+        if (this != &other) {
+            close();
+            run_ = std::exchange(other.run_, {});
+            taken_ = std::exchange(other.taken_, 0);
+        }
+        return *this;
+    }
+
+    ~Standing() { close(); }
+
+    // Makes at most so many steps more, up to 4,294,967,295 in all, and tells how the run would have ended here: with steps_out it may go on, and
+    // with memory it tries again. Where slices lie can't be seen in what is printed or in the schedule. Throws Error where no step is asked for,
+    // and where no run stands.
+    Outcome advance(std::uint32_t steps) {
+        const std::uint32_t code = tallowmarch_advance(&run_, steps);
+        if (code >= TALLOWMARCH_OUT_OF_RANGE) throw Error(code);
+        return static_cast<Outcome>(code);
+    }
+
+    // Makes slices of `slice` steps until so many are made in all, until it comes to another end, or until `stop` is true behind one of them, as
+    // another thread may set it at any time; one slice is made in any case. A run that was stopped tells steps_out, and may go on. Throws as above.
+    Outcome advance_until(std::uint32_t steps, std::uint32_t slice, const std::atomic<bool> &stop) {
+        for (;;) {
+            const std::uint32_t now = std::min(steps, slice);
+            const Outcome outcome = advance(now);
+            steps -= now;
+            if (outcome != Outcome::steps_out || steps == 0 || stop.load(std::memory_order_relaxed)) return outcome;
+        }
+    }
+
+    // What was printed since it was taken last; nothing where no run stands.
+    std::string take() {
+        std::string printed;
+        const std::size_t all = tallowmarch_printed(&run_, taken_, nothing(), 0);
+        if (all <= taken_) return printed;
+        printed.resize(all - taken_);
+        tallowmarch_printed(&run_, taken_, reinterpret_cast<std::uint8_t *>(printed.data()), printed.size());
+        taken_ = all;
+        return printed;
+    }
+
+    // The entries of the schedule so far, from one of them on: the next slice may add steps to the last.
+    Schedule entries(std::size_t from = 0) {
+        Entry none{};
+        const std::size_t all = tallowmarch_entries(&run_, 0, &none, 0);
+        Schedule schedule(all > from ? all - from : 0);
+        if (!schedule.empty()) tallowmarch_entries(&run_, from, schedule.data(), schedule.size());
+        return schedule;
+    }
+
+    // How much it came to so far. Throws Error where no run stands.
+    Counts counts() {
+        tallowmarch_counts counts{};
+        const std::uint32_t code = tallowmarch_counts_of(&run_, TALLOWMARCH_NUMBERS(counts));
+        if (code) throw Error(code);
+        return {counts.bytes, counts.entries, counts.steps, counts.flips, counts.taken};
+    }
+
+    // Gives the run's memory back. Nothing stands then; a second call does nothing.
+    void close() noexcept { tallowmarch_close(&run_); }
+
+private:
+    friend class Run;
+
+    Standing(const std::string &program, const tallowmarch_settings &settings) {
+        detail::fit();
+        const std::uint32_t code = tallowmarch_start(detail::bytes_of(program), program.size(), TALLOWMARCH_NUMBERS(settings), &run_);
+        if (code) throw Error(code);
+    }
+
+    // Somewhere to point to.
+    std::uint8_t *nothing() noexcept { return reinterpret_cast<std::uint8_t *>(&taken_); }
+
+    tallowmarch_standing run_{};
+    std::size_t taken_ = 0;
+};
+
 // A program with the settings of its run.
 class Run {
 public:
@@ -125,14 +226,19 @@ public:
     // The most entries that the run's schedule may have; 0 is no bound. A step that wants one more ends the run, with Outcome::memory.
     Run &entries(std::uint64_t most) { settings_.entries = most; return *this; }
 
+    // The bytes and entries that there is room for at first: 16,384 and 1,024, where nothing is said. A run that comes to more is made again, with
+    // room for all.
+    Run &rooms(std::size_t bytes, std::size_t entries) { rooms_ = {bytes, entries}; return *this; }
+
     // Memory that grows and is never collected, in place of a collected space.
     Run &plain() { settings_.plain = 1; return *this; }
 
     // Makes the run. Throws Error where there is none, and std::bad_alloc where the report finds no memory.
     Report run() const {
-        return detail::with_rooms([this](std::uint8_t *printed, std::size_t printed_room, Entry *schedule, std::size_t schedule_room,
-                                         tallowmarch_counts *counts) {
-            return tallowmarch_run(detail::bytes_of(program_), program_.size(), &settings_, printed, printed_room, schedule, schedule_room, counts);
+        return detail::with_rooms(rooms_, [this](std::uint8_t *printed, std::size_t printed_room, Entry *schedule, std::size_t schedule_room,
+                                                 tallowmarch_counts &counts) {
+            return tallowmarch_run(detail::bytes_of(program_), program_.size(), TALLOWMARCH_NUMBERS(settings_), printed, printed_room, schedule,
+                                   schedule_room, TALLOWMARCH_NUMBERS(counts));
         });
     }
 
@@ -146,19 +252,24 @@ public:
     // Throws Error where the schedule has an entry that is none, and as run does.
     Report replay(const Schedule &given) const { return from(tallowmarch_replay, given); }
 
+    // Starts a run that stands between calls, before its first step; it has a copy of the program. Its space is collected, and the steps of these
+    // settings don't count, since each slice has its own. Throws Error where there is none.
+    Standing start() const { return Standing(program_, settings_); }
+
 private:
     Report from(decltype(tallowmarch_replay) *call, const Schedule &given) const {
         const Entry none{};
         const Entry *entries = given.empty() ? &none : given.data();
-        return detail::with_rooms([&](std::uint8_t *printed, std::size_t printed_room, Entry *schedule, std::size_t schedule_room,
-                                      tallowmarch_counts *counts) {
-            return call(detail::bytes_of(program_), program_.size(), &settings_, entries, given.size(), printed, printed_room, schedule,
-                        schedule_room, counts);
+        return detail::with_rooms(rooms_, [&](std::uint8_t *printed, std::size_t printed_room, Entry *schedule, std::size_t schedule_room,
+                                              tallowmarch_counts &counts) {
+            return call(detail::bytes_of(program_), program_.size(), TALLOWMARCH_NUMBERS(settings_), entries, given.size(), printed, printed_room,
+                        schedule, schedule_room, TALLOWMARCH_NUMBERS(counts));
         });
     }
 
     std::string program_;
     tallowmarch_settings settings_ = TALLOWMARCH_SETTINGS;
+    detail::Rooms rooms_;
 };
 
 }  // namespace tallowmarch

@@ -34,8 +34,13 @@ int main() {
     count(Run("").plain().run().printed.empty(), "no program");
     const auto much = Run("10000 {(0123456789) print} repeat").space(4096).run();
     count(much.printed.size() == 100000 && much.printed.substr(99995) == "56789", "output beyond the first room");
+    count(Run("10000 {(0123456789) print} repeat").space(4096).rooms(100, 1).run().printed == much.printed, "output beyond a small room");
+    count(Run("10000 {(0123456789) print} repeat").space(4096).rooms(100000, 1).run().printed == much.printed, "output that fills its room");
+    const auto tight = Run("10 {(0123456789) print} repeat").rooms(0, 0).run();
+    count(tight.printed.size() == 100 && tight.schedule.size() == 1, "rooms of nothing");
     const auto made = Run(contexts).quantum(1).run();
-    count(made.schedule.size() > 256 && made.printed.size() == 200, "entries beyond the first room");
+    count(made.schedule.size() > 256 && made.printed.size() == 200, "many entries");
+    count(Run(contexts).quantum(1).rooms(1, 1).run().schedule.size() == made.schedule.size(), "entries beyond a small room");
     const auto again = Run(contexts).replay(made.schedule);
     count(again.printed == made.printed && again.steps == made.steps && again.schedule.size() == made.schedule.size(), "a replay");
     count(Run("1 =").replay({}).outcome == Outcome::steps_out, "a replay of no step");
@@ -60,6 +65,46 @@ int main() {
     const auto flood = Run("{(flood) =} loop").output(13).run();
     count(flood.outcome == Outcome::memory && flood.printed == "flood\nflood\n", "a bound on the output");
     count(Run("{} loop").steps(1000).run().outcome == Outcome::steps_out, "steps");
+    auto first = Run(contexts).quantum(3).start();
+    std::string pieces;
+    auto ended = Outcome::steps_out;
+    while (ended == Outcome::steps_out) {
+        ended = first.advance(7);
+        auto second = std::move(first);
+        pieces += second.take();
+        first = std::move(second);
+    }
+    const auto slices = first.counts();
+    count(ended == Outcome::finished && pieces == whole.printed && slices.steps == whole.steps && slices.bytes == pieces.size(), "slices");
+    const auto later = first.entries(3);
+    const auto is_same = [](const tallowmarch::Entry &one, const tallowmarch::Entry &other) {
+        return one.context == other.context && one.steps == other.steps;
+    };
+    count(first.entries().size() == slices.entries && later.size() + 3 == whole.schedule.size() &&
+              std::equal(later.begin(), later.end(), whole.schedule.begin() + 3, is_same) && first.entries(100000).empty(), "the entries of slices");
+    count(first.take().empty() && first.advance(1) == Outcome::finished, "a run that is over");
+    const auto refused = [](auto call, std::uint32_t code) {
+        try {
+            call();
+        } catch (const tallowmarch::Error &error) {
+            return error.code() == code;
+        }
+        return false;
+    };
+    count(refused([&] { first.advance(0); }, TALLOWMARCH_OUT_OF_RANGE), "a slice of no step");
+    first.close();
+    first.close();
+    count(refused([&] { first.advance(1); }, TALLOWMARCH_CLOSED) && refused([&] { first.counts(); }, TALLOWMARCH_CLOSED) && first.take().empty() &&
+              first.entries().empty(), "a run that was closed");
+    std::atomic<bool> stop{false};
+    auto endless = Run("{} loop").start();
+    count(endless.advance_until(1000, 300, stop) == Outcome::steps_out && endless.counts().steps == 1000, "slices until steps are made");
+    std::thread other([&stop] { stop = true; });
+    count(endless.advance_until(4000000000, 1000, stop) == Outcome::steps_out && stop, "slices until another thread stops them");
+    other.join();
+    count(endless.advance_until(5000, 100, stop) == Outcome::steps_out, "one slice of a run that is to stop");
+    count(refused([&] { endless.advance_until(5, 0, stop); }, TALLOWMARCH_OUT_OF_RANGE), "slices of no step");
+    count(refused([] { Run("").plain().start(); }, TALLOWMARCH_OUT_OF_RANGE), "a run that stands over memory that grows");
     std::vector<std::thread> threads;
     std::vector<std::string> printed(8);
     for (auto &it : printed) threads.emplace_back([&it] { it = Run(contexts).quantum(1).run().printed; });

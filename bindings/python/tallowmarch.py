@@ -5,8 +5,14 @@
     >>> report.printed, report.outcome
     (b'3\\n', <Outcome.FINISHED: 0>)
 
+A run also stands between calls, which make slices of it:
+
+    >>> with tallowmarch.Standing(b'(on it) = {} loop') as script:
+    ...     script.advance(1000), script.take()
+    (<Outcome.STEPS_OUT: 4>, b'on it\\n')
+
 Nothing is shared between calls: any number of threads may run programs at once, and Python's lock is not held meanwhile. A call blocks its
-thread until the program ended or its budget of steps is used up.
+thread until the program ended or its budget of steps is used up, so that Ctrl-C is heeded between two slices alone.
 
 The shared object is that of the variable TALLOWMARCH_LIBRARY, or libtallowmarch.so beside this file, or the system's. It wants Python 3.7 and
 nothing else.
@@ -18,9 +24,11 @@ import enum
 import os
 import secrets
 import typing
+import weakref
 
-VERSION = 300
-_FIRST_BYTES, _FIRST_ENTRIES = 4096, 256
+VERSION = 400
+_FIRST_ROOMS = 16384, 1024
+_Pair = typing.Optional[typing.Tuple[int, int]]
 
 
 class Outcome(enum.Enum):
@@ -48,6 +56,10 @@ class OtherSchedule(Error, ValueError):
     """The schedule to go on from isn't that of a run of this program by these settings."""
 
 
+class Closed(Error, ValueError):
+    """No run stands: it was closed."""
+
+
 class BadEntry(Error, ValueError):
     """An entry of the given schedule is none: its context or its steps are 0, or it shows a pair below 1."""
 
@@ -58,6 +70,15 @@ class Entry(typing.NamedTuple):
     steps: int  #: how many steps, at least 1
     refused: bool = False  #: whether the last step finds no memory for an object
     shown: typing.Optional[typing.Tuple[int, int]] = None  #: what a vmstatus in the last step shows: words used, words there are, from 1
+
+
+class Counts(typing.NamedTuple):
+    """How much a run came to so far."""
+    bytes: int  #: the bytes that it printed
+    entries: int  #: the entries of its schedule
+    steps: int  #: its steps
+    flips: int  #: the collector's cycles
+    taken: int  #: the stores that the collector had to follow
 
 
 @dataclasses.dataclass(frozen=True)
@@ -76,8 +97,7 @@ class _Keys(ctypes.Structure):
 
 
 class _Settings(ctypes.Structure):
-    _fields_ = [*((it, ctypes.c_uint32) for it in ('space', 'quantum', 'steps', 'plain')), ('output', ctypes.c_uint64), ('entries', ctypes.c_uint64),
-                ('keys', _Keys)]
+    _fields_ = [*((it, ctypes.c_uint64) for it in ('space', 'quantum', 'steps', 'plain', 'output', 'entries')), ('keys', _Keys)]
 
 
 class _Entry(ctypes.Structure):
@@ -85,7 +105,21 @@ class _Entry(ctypes.Structure):
 
 
 class _Counts(ctypes.Structure):
-    _fields_ = [(it, ctypes.c_uint64) for it in ('bytes', 'entries', 'steps', 'flips', 'taken')]
+    _fields_ = [(it, ctypes.c_uint64) for it in Counts._fields]
+
+
+class _Standing(ctypes.Structure):
+    _fields_ = [('at', ctypes.c_void_p), ('full', ctypes.c_uint32)]
+
+
+def _fits(version):
+    """Whether a library of a version is one for this module: of the same first number, and behind a first one of 0 of the same second one."""
+    return version // 10000 == VERSION // 10000 and (version >= 10000 or version // 100 == VERSION // 100)
+
+
+def _numbers(of):
+    """Where the numbers of settings or counts stand, and how many they are."""
+    return ctypes.byref(of), ctypes.sizeof(of) // 8
 
 
 def _load():
@@ -96,34 +130,46 @@ def _load():
         raise ImportError('there is no libtallowmarch.so: tools/library links one, and TALLOWMARCH_LIBRARY names it')
     library = ctypes.CDLL(name)
     size, bytes_of, pointer = ctypes.c_size_t, ctypes.c_char_p, ctypes.POINTER
-    rooms = [pointer(ctypes.c_char), size, pointer(_Entry), size, pointer(_Counts)]
-    asked, given = [bytes_of, size, pointer(_Settings)], [pointer(_Entry), size]
+    rooms = [pointer(ctypes.c_char), size, pointer(_Entry), size, ctypes.c_void_p, size]
+    asked, given = [bytes_of, size, ctypes.c_void_p, size], [pointer(_Entry), size]
     library.tallowmarch_version.restype, library.tallowmarch_version.argtypes = ctypes.c_uint32, []
-    if library.tallowmarch_version() != VERSION:
+    if not _fits(library.tallowmarch_version()):
         raise ImportError(f'{name} is of version {library.tallowmarch_version()}, and this module of {VERSION}')
     library.tallowmarch_run.restype = library.tallowmarch_go_on.restype = library.tallowmarch_replay.restype = ctypes.c_uint32
     library.tallowmarch_run.argtypes = [*asked, *rooms]
     library.tallowmarch_go_on.argtypes = library.tallowmarch_replay.argtypes = [*asked, *given, *rooms]
+    handle, u32 = pointer(_Standing), ctypes.c_uint32
+    for name, gives, takes in (('start', u32, [*asked, handle]), ('advance', u32, [handle, u32]),
+                               ('printed', size, [handle, size, pointer(ctypes.c_char), size]), ('entries', size, [handle, size, pointer(_Entry), size]),
+                               ('counts_of', u32, [handle, ctypes.c_void_p, size]), ('close', None, [handle])):
+        function = getattr(library, f'tallowmarch_{name}')
+        function.restype, function.argtypes = gives, takes
     return library
 
 
 _LIBRARY = _load()
 _ERRORS = {16: OutOfRange('a number of the settings is out of its range'), 17: NoRoom('out of memory'),
-           18: OtherSchedule('the schedule is not that of a run by these settings'), 19: BadEntry('an entry of the schedule is none')}
+           18: OtherSchedule('the schedule is not that of a run by these settings'), 19: BadEntry('an entry of the schedule is none'),
+           20: Closed('no run stands')}
+
+
+def _unless_error(code):
+    """A code that is none of an error."""
+    if code in _ERRORS:
+        raise type(_ERRORS[code])(*_ERRORS[code].args)
+    return code
 
 
 def _entry_of(raw):
     return Entry(raw.context, raw.steps, raw.refused != 0, (raw.used, raw.size) if raw.shown else None)
 
 
-def _with_rooms(call):
+def _with_rooms(rooms, call):
     """Calls with rooms of which each is large enough: where one wasn't, the call is made again, which comes to the same run."""
-    most_bytes, most_entries = _FIRST_BYTES, _FIRST_ENTRIES
+    most_bytes, most_entries = rooms
     while True:
-        printed, schedule, counts = ctypes.create_string_buffer(most_bytes), (_Entry * most_entries)(), _Counts()
-        code = call(printed, most_bytes, schedule, most_entries, counts)
-        if code in _ERRORS:
-            raise type(_ERRORS[code])(*_ERRORS[code].args)
+        printed, schedule, counts = ctypes.create_string_buffer(max(1, most_bytes)), (_Entry * max(1, most_entries))(), _Counts()
+        code = _unless_error(call(printed, most_bytes, schedule, most_entries, *_numbers(counts)))
         if counts.bytes <= most_bytes and counts.entries <= most_entries:
             made = tuple(_entry_of(it) for it in schedule[:counts.entries])
             return Report(printed.raw[:counts.bytes], made, Outcome(code), counts.steps, counts.flips, counts.taken)
@@ -155,19 +201,23 @@ def _entries(schedule):
     return given
 
 
-def run(program, *, space=65536, quantum=100, steps=2 ** 32 - 1, plain=False, output=0, entries=0, keys=None):
+def run(program: bytes, *, space: int = 65536, quantum: int = 100, steps: int = 2 ** 32 - 1, plain: bool = False, output: int = 0, entries: int = 0,
+        keys: _Pair = None, rooms: typing.Tuple[int, int] = _FIRST_ROOMS) -> Report:
     """Runs a program, given as bytes.
 
     space: the words, of 8 bytes, that its objects may take, 4,096 to 1,048,576; quantum: the most steps of a context's turn, 1 to 65,535;
     steps: the most steps of the run, at least 1; plain: memory that grows and is never collected, in place of a collected space; output: the
     most bytes that it may print, 0 for no bound; entries: the most entries that its schedule may have, 0 for no bound; keys: two numbers of
-    64 bits for the table of names, else such as nobody knows.
+    64 bits for the table of names, else such as nobody knows; rooms: the bytes and entries that there is room for at first. A run that comes
+    to more is made again, with room for all.
     Raises OutOfRange or NoRoom where there is no run; whatever the program does is no exception.
 
     >>> run(b'{} loop', steps=1000).outcome
     <Outcome.STEPS_OUT: 4>
     >>> run(b'{(flood) =} loop', output=13).printed
     b'flood\\nflood\\n'
+    >>> run(b'1000 {(0123456789) print} repeat', rooms=(0, 0)).printed == run(b'1000 {(0123456789) print} repeat', rooms=(10000, 1)).printed
+    True
     >>> len(run(b'mark {{(a) print} loop} fork {(b) print} loop', quantum=1, entries=13).schedule)
     13
     >>> run(b'', space=1)
@@ -175,10 +225,11 @@ def run(program, *, space=65536, quantum=100, steps=2 ** 32 - 1, plain=False, ou
     tallowmarch.OutOfRange: a number of the settings is out of its range
     """
     program, settings = bytes(program), _settings(keys, plain, space=space, quantum=quantum, steps=steps, output=output, entries=entries)
-    return _with_rooms(lambda *rooms: _LIBRARY.tallowmarch_run(program, len(program), settings, *rooms))
+    return _with_rooms(rooms, lambda *made: _LIBRARY.tallowmarch_run(program, len(program), *_numbers(settings), *made))
 
 
-def go_on(program, schedule, *, space=65536, quantum=100, steps=2 ** 32 - 1, plain=False, output=0, entries=0, keys=None):
+def go_on(program: bytes, schedule: typing.Sequence[Entry], *, space: int = 65536, quantum: int = 100, steps: int = 2 ** 32 - 1, plain: bool = False,
+          output: int = 0, entries: int = 0, keys: _Pair = None, rooms: typing.Tuple[int, int] = _FIRST_ROOMS) -> Report:
     """Goes on from a schedule that a run of the same program by the same settings was handed, for at most so many steps more.
 
     The report is of the whole run, from its start: it begins with the given steps, and with what they printed; but with MEMORY it may end before.
@@ -197,13 +248,14 @@ def go_on(program, schedule, *, space=65536, quantum=100, steps=2 ** 32 - 1, pla
     """
     program, settings = bytes(program), _settings(keys, plain, space=space, quantum=quantum, steps=steps, output=output, entries=entries)
     given = _entries(schedule)
-    return _with_rooms(lambda *rooms: _LIBRARY.tallowmarch_go_on(program, len(program), settings, given, len(schedule), *rooms))
+    return _with_rooms(rooms, lambda *made: _LIBRARY.tallowmarch_go_on(program, len(program), *_numbers(settings), given, len(schedule), *made))
 
 
-def replay(program, schedule, *, output=0, keys=None):
+def replay(program: bytes, schedule: typing.Sequence[Entry], *, output: int = 0, keys: _Pair = None,
+           rooms: typing.Tuple[int, int] = _FIRST_ROOMS) -> Report:
     """Follows a schedule of a run of the same program, over memory that grows and is never collected. It prints what that run printed.
 
-    output and keys are as for a run. Where memory was wanted the outcome is MEMORY, and the report has the schedule as far as it was followed.
+    output, keys and rooms are as for a run. Where memory was wanted the outcome is MEMORY, and the report has the schedule as far as it was followed.
     Raises BadEntry where an entry is none, and NoRoom where there is no memory to start with.
 
     >>> replay(b'1 =', [Entry(context=1, steps=0)])
@@ -215,4 +267,80 @@ def replay(program, schedule, *, output=0, keys=None):
     True
     """
     program, settings, given = bytes(program), _settings(keys, False, output=output), _entries(schedule)
-    return _with_rooms(lambda *rooms: _LIBRARY.tallowmarch_replay(program, len(program), settings, given, len(schedule), *rooms))
+    return _with_rooms(rooms, lambda *made: _LIBRARY.tallowmarch_replay(program, len(program), *_numbers(settings), given, len(schedule), *made))
+
+
+class Standing:
+    """A run that stands between calls: advance makes a slice of it, and take gives what was printed since.
+
+    The numbers are those of a run, but for its steps, since each slice has its own, and plain: its space is collected. It has a copy of the
+    program. It belongs to one call at a time, from whatever thread. Its memory is given back by close, at the end of a with, or where the object goes.
+    Raises OutOfRange or NoRoom as a run does.
+
+    >>> script = Standing(b'1 1 100 {=} for', space=4096)
+    >>> script.advance(30)
+    <Outcome.STEPS_OUT: 4>
+    >>> script.take() + b''.join(script.slices(30)) == run(b'1 1 100 {=} for').printed, script.outcome
+    (True, <Outcome.FINISHED: 0>)
+    >>> script.counts().bytes, script.entries() == run(b'1 1 100 {=} for').schedule
+    (292, True)
+    >>> script.close()
+    >>> script.advance(30)
+    Traceback (most recent call last):
+    tallowmarch.Closed: no run stands
+    """
+
+    def __init__(self, program: bytes, *, space: int = 65536, quantum: int = 100, output: int = 0, entries: int = 0,
+                 keys: _Pair = None) -> None:
+        self._run, self._taken = _Standing(), 0
+        #: how the run would have ended behind the last slice; None before the first one
+        self.outcome: typing.Optional[Outcome] = None
+        program, settings = bytes(program), _settings(keys, False, space=space, quantum=quantum, steps=1, output=output, entries=entries)
+        _unless_error(_LIBRARY.tallowmarch_start(program, len(program), *_numbers(settings), self._run))
+        self._close = weakref.finalize(self, _LIBRARY.tallowmarch_close, self._run)
+
+    def advance(self, steps: int) -> Outcome:
+        """Makes at most so many steps more, up to 4,294,967,295 in all, and tells how the run would have ended here: with STEPS_OUT it may go on,
+        and with MEMORY it tries again. Where slices lie can't be seen in what is printed or in the schedule. Raises OutOfRange where no step
+        is asked for, and Closed."""
+        self.outcome = Outcome(_unless_error(_LIBRARY.tallowmarch_advance(self._run, _within(steps=steps)['steps'])))
+        return self.outcome
+
+    def take(self) -> bytes:
+        """What was printed since it was taken last; nothing where no run stands."""
+        found = _LIBRARY.tallowmarch_printed(self._run, self._taken, ctypes.create_string_buffer(1), 0) - self._taken
+        if found <= 0:
+            return b''
+        room = ctypes.create_string_buffer(found)
+        _LIBRARY.tallowmarch_printed(self._run, self._taken, room, found)
+        self._taken += found
+        return room.raw
+
+    def slices(self, steps: int = 100000) -> typing.Iterator[bytes]:
+        """Makes slices of so many steps until one comes to another end than STEPS_OUT, and gives what each printed. Ctrl-C is heeded behind each."""
+        while self.advance(steps) is Outcome.STEPS_OUT:
+            yield self.take()
+        yield self.take()
+
+    def entries(self, first: int = 0) -> typing.Tuple[Entry, ...]:
+        """The entries of the schedule so far, from one of them on: the next slice may add steps to the last. None where no run stands."""
+        found = max(0, _LIBRARY.tallowmarch_entries(self._run, 0, (_Entry * 1)(), 0) - first)
+        room = (_Entry * max(1, found))()
+        _LIBRARY.tallowmarch_entries(self._run, first, room, found)
+        return tuple(_entry_of(it) for it in room[:found])
+
+    def counts(self) -> Counts:
+        """How much it came to so far. Raises Closed."""
+        counts = _Counts()
+        _unless_error(_LIBRARY.tallowmarch_counts_of(self._run, *_numbers(counts)))
+        return Counts(*(getattr(counts, it) for it in Counts._fields))
+
+    def close(self) -> None:
+        """Gives the run's memory back; a second call does nothing."""
+        self._close()
+
+    def __enter__(self) -> 'Standing':
+        return self
+
+    def __exit__(self, *_: object) -> None:
+        self.close()

@@ -22,8 +22,8 @@ struct part {
 /* Goes on from one part to the next, with room for all of its schedule. */
 static void go_on(const struct part *from, struct part *to, const tallowmarch_settings *settings) {
     for (;;) {
-        to->code = tallowmarch_go_on(program, sizeof program - 1, settings, from->schedule, from->counts.entries, to->printed, sizeof to->printed,
-                                     to->schedule, to->room, &to->counts);
+        to->code = tallowmarch_go_on(program, sizeof program - 1, TALLOWMARCH_NUMBERS(*settings), from->schedule, from->counts.entries,
+                                     to->printed, sizeof to->printed, to->schedule, to->room, TALLOWMARCH_NUMBERS(to->counts));
         if (to->code >= TALLOWMARCH_OUT_OF_RANGE || to->counts.entries <= to->room) return;
         to->room = 2 * to->counts.entries;
         to->schedule = realloc(to->schedule, to->room * sizeof(tallowmarch_entry));

@@ -13,7 +13,8 @@ int main(void) {
     tallowmarch_entry schedule[16];
     tallowmarch_counts counts;
 
-    uint32_t code = tallowmarch_run(program, sizeof program - 1, &settings, printed, sizeof printed, schedule, 16, &counts);
+    uint32_t code = tallowmarch_run(program, sizeof program - 1, TALLOWMARCH_NUMBERS(settings), printed, sizeof printed, schedule, 16,
+                                    TALLOWMARCH_NUMBERS(counts));
     if (code >= TALLOWMARCH_OUT_OF_RANGE) {
         fprintf(stderr, "no run: code %u\n", code);
         return 2;

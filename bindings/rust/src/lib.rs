@@ -23,12 +23,17 @@
 //! assert_eq!(again.printed, report.printed);
 //! # Ok::<(), tallowmarch::Error>(())
 //! ```
+//!
+//! A run also stands between calls, which make slices of it: see [`Run::start`] and [`Standing`].
 #![warn(missing_docs)]
 
 use std::fmt;
 use std::hash::{BuildHasher, Hasher, RandomState};
 
 mod raw;
+mod standing;
+
+pub use standing::{Counts, Slice, Slices, Standing};
 
 /// A program with the settings of its run. See [`Run::new`].
 #[derive(Clone, Debug)]
@@ -36,6 +41,7 @@ mod raw;
 pub struct Run<'a> {
     program: &'a [u8],
     settings: raw::Settings,
+    rooms: raw::Rooms,
 }
 
 impl<'a> Run<'a> {
@@ -43,19 +49,19 @@ impl<'a> Run<'a> {
     ///
     /// The keys of the table of names are taken from the system's random numbers. They change nothing of what is printed.
     pub fn new(program: &'a [u8]) -> Run<'a> {
-        let settings = raw::Settings { space: 65_536, quantum: 100, steps: u32::MAX, plain: 0, output: 0, entries: 0, keys: raw::Keys::random() };
-        Run { program, settings }
+        let settings = raw::Settings { space: 65_536, quantum: 100, steps: u32::MAX.into(), plain: 0, output: 0, entries: 0, keys: raw::Keys::random() };
+        Run { program, settings, rooms: raw::Rooms::default() }
     }
 
     /// How many words, of 8 bytes, the program's objects may take: 4,096 to 1,048,576.
     pub fn space(mut self, words: u32) -> Self {
-        self.settings.space = words;
+        self.settings.space = words.into();
         self
     }
 
     /// The most steps of a context's turn: 1 to 65,535.
     pub fn quantum(mut self, steps: u32) -> Self {
-        self.settings.quantum = steps;
+        self.settings.quantum = steps.into();
         self
     }
 
@@ -71,7 +77,7 @@ impl<'a> Run<'a> {
     /// # Ok::<(), tallowmarch::Error>(())
     /// ```
     pub fn steps(mut self, most: u32) -> Self {
-        self.settings.steps = most;
+        self.settings.steps = most.into();
         self
     }
 
@@ -106,6 +112,22 @@ impl<'a> Run<'a> {
         self
     }
 
+    /// The bytes and entries that there is room for at first: 16,384 and 1,024, where nothing is said. A run that comes to more is made again, with
+    /// room for all.
+    ///
+    /// ```
+    /// use tallowmarch::Run;
+    ///
+    /// let report = Run::new(b"1000 {(0123456789) print} repeat").rooms(10_000, 1).run()?;
+    /// assert_eq!(report.printed.len(), 10_000);
+    /// assert_eq!(Run::new(b"1000 {(0123456789) print} repeat").rooms(0, 0).run()?, report);
+    /// # Ok::<(), tallowmarch::Error>(())
+    /// ```
+    pub fn rooms(mut self, bytes: usize, entries: usize) -> Self {
+        self.rooms = raw::Rooms { bytes, entries };
+        self
+    }
+
     /// Memory that grows and is never collected, in place of a collected space.
     pub fn plain(mut self) -> Self {
         self.settings.plain = 1;
@@ -125,7 +147,7 @@ impl<'a> Run<'a> {
     /// assert_eq!(Run::new(b"").space(1).run(), Err(Error::OutOfRange));
     /// ```
     pub fn run(&self) -> Result<Report, Error> {
-        raw::run(self.program, &self.settings)
+        raw::run(self.program, &self.settings, self.rooms)
     }
 
     /// Goes on from a schedule that a run of this program by these settings was handed, for at most so many steps more as the settings say.
@@ -161,7 +183,30 @@ impl<'a> Run<'a> {
     /// # Ok::<(), Error>(())
     /// ```
     pub fn go_on(&self, schedule: &Schedule) -> Result<Report, Error> {
-        raw::go_on(self.program, &self.settings, &schedule.0)
+        raw::go_on(self.program, &self.settings, &schedule.0, self.rooms)
+    }
+
+    /// Starts a run that stands between calls, before its first step; it has a copy of the program. Its space is collected, and the steps of these
+    /// settings don't count, since each slice has its own.
+    ///
+    /// # Errors
+    ///
+    /// [`Error::OutOfRange`] where a number of the settings is out of its range, or memory that grows is asked for, and [`Error::NoRoom`] where there
+    /// is no memory to start with.
+    ///
+    /// ```
+    /// use tallowmarch::{Error, Outcome, Run};
+    ///
+    /// let mut script = Run::new(b"1 1 3 {=} for").start()?;
+    /// assert_eq!(script.advance(8)?, Outcome::StepsOut);
+    /// assert_eq!(script.take(), b"1\n");
+    /// assert_eq!(script.advance(1000)?, Outcome::Finished);
+    /// assert_eq!(script.take(), b"2\n3\n");
+    /// assert_eq!(Run::new(b"").plain().start().err(), Some(Error::OutOfRange));
+    /// # Ok::<(), Error>(())
+    /// ```
+    pub fn start(&self) -> Result<Standing, Error> {
+        Standing::new(self.program, &self.settings)
     }
 
     /// Follows a schedule of a run of this program, by whatever settings, over memory that grows and is never collected. It prints what that run
@@ -179,7 +224,7 @@ impl<'a> Run<'a> {
     /// assert_eq!(Run::new(b"1 =").replay(&nobody), Err(Error::BadEntry));
     /// ```
     pub fn replay(&self, schedule: &Schedule) -> Result<Report, Error> {
-        raw::replay(self.program, &self.settings, &schedule.0)
+        raw::replay(self.program, &self.settings, &schedule.0, self.rooms)
     }
 }
 

@@ -1,12 +1,25 @@
 //! What crosses to the library: the types of `tallowmarch.h`, and the calls, which are the only unsafe code.
 
+use std::ffi::c_void;
+use std::mem::size_of;
+use std::ptr::null_mut;
+
 use crate::{random, Error, Outcome, Report, Schedule};
 
 /// The version of `tallowmarch.h` that these types are of.
-const VERSION: u32 = 300;
-/// The items of the rooms of a first call.
-const FIRST_BYTES: usize = 4096;
-const FIRST_ENTRIES: usize = 256;
+const VERSION: u32 = 400;
+/// The items of the rooms that a call is given first.
+#[derive(Clone, Copy, Debug)]
+pub(crate) struct Rooms {
+    pub(crate) bytes: usize,
+    pub(crate) entries: usize,
+}
+
+impl Default for Rooms {
+    fn default() -> Rooms {
+        Rooms { bytes: 16_384, entries: 1_024 }
+    }
+}
 
 #[repr(C)]
 #[derive(Clone, Copy, Debug)]
@@ -25,13 +38,23 @@ impl Keys {
 #[repr(C)]
 #[derive(Clone, Copy, Debug)]
 pub(crate) struct Settings {
-    pub(crate) space: u32,
-    pub(crate) quantum: u32,
-    pub(crate) steps: u32,
-    pub(crate) plain: u32,
+    pub(crate) space: u64,
+    pub(crate) quantum: u64,
+    pub(crate) steps: u64,
+    pub(crate) plain: u64,
     pub(crate) output: u64,
     pub(crate) entries: u64,
     pub(crate) keys: Keys,
+}
+
+impl Settings {
+    /// How many numbers there are.
+    const KNOWN: usize = size_of::<Settings>() / size_of::<u64>();
+
+    /// Where the numbers stand: there is nothing else in it.
+    fn numbers(&self) -> *const u64 {
+        std::ptr::from_ref(self).cast()
+    }
 }
 
 #[repr(C)]
@@ -47,12 +70,27 @@ pub(crate) struct Entry {
 
 #[repr(C)]
 #[derive(Clone, Copy, Default)]
-struct Counts {
-    bytes: u64,
-    entries: u64,
-    steps: u64,
-    flips: u64,
-    taken: u64,
+pub(crate) struct Counts {
+    pub(crate) bytes: u64,
+    pub(crate) entries: u64,
+    pub(crate) steps: u64,
+    pub(crate) flips: u64,
+    pub(crate) taken: u64,
+}
+
+impl Counts {
+    /// How many numbers there are.
+    const KNOWN: usize = size_of::<Counts>() / size_of::<u64>();
+
+    /// Where the numbers stand: there is nothing else in it.
+    fn numbers(&mut self) -> *mut u64 {
+        std::ptr::from_mut(self).cast()
+    }
+}
+
+/// Whether a library of a version is one for these types: of the same first number, and behind a first one of 0 of the same second one.
+fn fits(version: u32) -> bool {
+    version / 10_000 == VERSION / 10_000 && (version >= 10_000 || version / 100 == VERSION / 100)
 }
 
 extern "C" {
@@ -60,111 +98,199 @@ extern "C" {
     fn tallowmarch_run(
         program: *const u8,
         length: usize,
-        settings: *const Settings,
+        settings: *const u64,
+        settings_known: usize,
         printed: *mut u8,
         printed_room: usize,
         schedule: *mut Entry,
         schedule_room: usize,
-        counts: *mut Counts,
+        counts: *mut u64,
+        counts_room: usize,
     ) -> u32;
     fn tallowmarch_go_on(
         program: *const u8,
         length: usize,
-        settings: *const Settings,
+        settings: *const u64,
+        settings_known: usize,
         given: *const Entry,
         given_length: usize,
         printed: *mut u8,
         printed_room: usize,
         schedule: *mut Entry,
         schedule_room: usize,
-        counts: *mut Counts,
+        counts: *mut u64,
+        counts_room: usize,
     ) -> u32;
     fn tallowmarch_replay(
         program: *const u8,
         length: usize,
-        settings: *const Settings,
+        settings: *const u64,
+        settings_known: usize,
         given: *const Entry,
         given_length: usize,
         printed: *mut u8,
         printed_room: usize,
         schedule: *mut Entry,
         schedule_room: usize,
-        counts: *mut Counts,
+        counts: *mut u64,
+        counts_room: usize,
     ) -> u32;
+}
+
+extern "C" {
+    fn tallowmarch_start(program: *const u8, length: usize, settings: *const u64, settings_known: usize, run: *mut Handle) -> u32;
+    fn tallowmarch_advance(run: *mut Handle, steps: u32) -> u32;
+    fn tallowmarch_printed(run: *mut Handle, from: usize, room: *mut u8, count: usize) -> usize;
+    fn tallowmarch_entries(run: *mut Handle, from: usize, room: *mut Entry, count: usize) -> usize;
+    fn tallowmarch_counts_of(run: *mut Handle, counts: *mut u64, counts_room: usize) -> u32;
+    fn tallowmarch_close(run: *mut Handle);
+}
+
+/// The handle of a run that stands, as the library has it. One stands from `start` on until it is dropped.
+#[repr(C)]
+#[derive(Debug)]
+pub(crate) struct Handle {
+    at: *mut c_void,
+    full: u32,
+}
+
+// SAFETY: a handle may be handed from thread to thread; it is given to one call at a time, since each takes it by `&mut`.
+unsafe impl Send for Handle {}
+
+impl Drop for Handle {
+    fn drop(&mut self) {
+        // SAFETY: the library wrote the handle, or it has zeros, and nothing copied it.
+        unsafe { tallowmarch_close(self) }
+    }
+}
+
+impl Handle {
+    /// Starts a run.
+    pub(crate) fn start(program: &[u8], settings: &Settings) -> Result<Handle, Error> {
+        // SAFETY: it takes nothing, and is of every version.
+        if !fits(unsafe { tallowmarch_version() }) {
+            return Err(Error::Version);
+        }
+        let mut handle = Handle { at: null_mut(), full: 0 };
+        // SAFETY: each pointer is of a reference or a slice, so it isn't null and leads to as many items as are told.
+        let code = unsafe { tallowmarch_start(program.as_ptr(), program.len(), settings.numbers(), Settings::KNOWN, &mut handle) };
+        outcome_of(code).map(|_| handle)
+    }
+
+    /// Makes a slice.
+    pub(crate) fn advance(&mut self, steps: u32) -> Result<Outcome, Error> {
+        // SAFETY: the handle is the library's, and is lent to this call alone.
+        outcome_of(unsafe { tallowmarch_advance(self, steps) })
+    }
+
+    /// What was printed from a place on.
+    pub(crate) fn printed(&mut self, from: usize) -> Vec<u8> {
+        // SAFETY: as in `advance`; a room of a slice, or of nothing.
+        all_from(from, |room: &mut [u8]| unsafe { tallowmarch_printed(self, from, room.as_mut_ptr(), room.len()) })
+    }
+
+    /// The entries from a place on.
+    pub(crate) fn entries(&mut self, from: usize) -> Vec<Entry> {
+        // SAFETY: as in `printed`.
+        all_from(from, |room: &mut [Entry]| unsafe { tallowmarch_entries(self, from, room.as_mut_ptr(), room.len()) })
+    }
+
+    /// How much it came to.
+    pub(crate) fn counts(&mut self) -> Counts {
+        let mut counts = Counts::default();
+        // SAFETY: as in `advance`; the numbers are of a reference. A run stands, so the code is 0.
+        unsafe { tallowmarch_counts_of(self, counts.numbers(), Counts::KNOWN) };
+        counts
+    }
+}
+
+/// All items from a place on: the call tells how many there are, from the first on, and writes what there is room for.
+fn all_from<T: Clone + Default>(from: usize, mut call: impl FnMut(&mut [T]) -> usize) -> Vec<T> {
+    let mut room = vec![T::default(); call(&mut []).saturating_sub(from)];
+    if !room.is_empty() {
+        call(&mut room);
+    }
+    room
 }
 
 /// A call that is given a schedule.
 type From = unsafe extern "C" fn(
     *const u8,
     usize,
-    *const Settings,
+    *const u64,
+    usize,
     *const Entry,
     usize,
     *mut u8,
     usize,
     *mut Entry,
     usize,
-    *mut Counts,
+    *mut u64,
+    usize,
 ) -> u32;
 
 /// Makes a run.
-pub(crate) fn run(program: &[u8], settings: &Settings) -> Result<Report, Error> {
-    with_rooms(|printed, schedule, counts| {
+pub(crate) fn run(program: &[u8], settings: &Settings, first: Rooms) -> Result<Report, Error> {
+    with_rooms(first, |printed, schedule, counts| {
         // SAFETY: each pointer is of a reference or a slice, so it isn't null and leads to as many items as are told; the rooms are borrowed
         // alone, so that nothing overlaps.
         unsafe {
             tallowmarch_run(
                 program.as_ptr(),
                 program.len(),
-                settings,
+                settings.numbers(),
+                Settings::KNOWN,
                 printed.as_mut_ptr(),
                 printed.len(),
                 schedule.as_mut_ptr(),
                 schedule.len(),
-                counts,
+                counts.numbers(),
+                Counts::KNOWN,
             )
         }
     })
 }
 
 /// Goes on from a schedule.
-pub(crate) fn go_on(program: &[u8], settings: &Settings, given: &[Entry]) -> Result<Report, Error> {
-    from(tallowmarch_go_on, program, settings, given)
+pub(crate) fn go_on(program: &[u8], settings: &Settings, given: &[Entry], first: Rooms) -> Result<Report, Error> {
+    from(tallowmarch_go_on, program, settings, given, first)
 }
 
 /// Follows a schedule.
-pub(crate) fn replay(program: &[u8], settings: &Settings, given: &[Entry]) -> Result<Report, Error> {
-    from(tallowmarch_replay, program, settings, given)
+pub(crate) fn replay(program: &[u8], settings: &Settings, given: &[Entry], first: Rooms) -> Result<Report, Error> {
+    from(tallowmarch_replay, program, settings, given, first)
 }
 
 /// Calls with a schedule.
-fn from(call: From, program: &[u8], settings: &Settings, given: &[Entry]) -> Result<Report, Error> {
-    with_rooms(|printed, schedule, counts| {
+fn from(call: From, program: &[u8], settings: &Settings, given: &[Entry], first: Rooms) -> Result<Report, Error> {
+    with_rooms(first, |printed, schedule, counts| {
         // SAFETY: as in `run`.
         unsafe {
             call(
                 program.as_ptr(),
                 program.len(),
-                settings,
+                settings.numbers(),
+                Settings::KNOWN,
                 given.as_ptr(),
                 given.len(),
                 printed.as_mut_ptr(),
                 printed.len(),
                 schedule.as_mut_ptr(),
                 schedule.len(),
-                counts,
+                counts.numbers(),
+                Counts::KNOWN,
             )
         }
     })
 }
 
 /// Calls with rooms of which each is large enough: where one wasn't, the call is made again, which comes to the same run.
-fn with_rooms(call: impl Fn(&mut [u8], &mut [Entry], &mut Counts) -> u32) -> Result<Report, Error> {
+fn with_rooms(first: Rooms, call: impl Fn(&mut [u8], &mut [Entry], &mut Counts) -> u32) -> Result<Report, Error> {
     // SAFETY: it takes nothing, and is of every version.
-    if unsafe { tallowmarch_version() } != VERSION {
+    if !fits(unsafe { tallowmarch_version() }) {
         return Err(Error::Version);
     }
-    let (mut printed, mut schedule) = (vec![0; FIRST_BYTES], vec![Entry::default(); FIRST_ENTRIES]);
+    let (mut printed, mut schedule) = (vec![0; first.bytes], vec![Entry::default(); first.entries]);
     loop {
         let mut counts = Counts::default();
         let outcome = outcome_of(call(&mut printed, &mut schedule, &mut counts))?;

@@ -5,9 +5,35 @@ use Rattle.ps_language.specs.declared.schedules.Entry.{Entry}
 use Rattle.ps_language.specs.Schedules.{count_of, moves}
 use Rattle.ps_vault.specs.declared.reports.Outcome.TheVariants.{AllWaiting, StepsOut, Memory}
 use Rattle.ps_run_hosts.specs.declared.hosting.Refusal.TheVariants.{BadEntry}
-use Rattle.ps_run_hosts.specs.Hosts.{bound_in, budget_behind, code_of, code_of_refusal, given_entry, handed, handed_entry}
+use Rattle.ps_run_workers.specs.Slices.{budget_behind}
+use Rattle.ps_run_hosts.specs.Hosts.{bound_in, code_of, code_of_refusal, given_entry, handed, handed_entry, settings_in}
 
 -- ---- what a host gives
+
+-- the usual settings, of no number
+usual_space : (settings_in []).space ≡ 65536
+usual_space = refl
+
+usual_quantum : (settings_in []).quantum ≡ 100
+usual_quantum = refl
+
+usual_steps : (settings_in []).steps ≡ 4294967295
+usual_steps = refl
+
+-- a host that knows the first two
+known_quantum : (settings_in (4096 ∷ 7 ∷ [])).quantum ≡ 7
+known_quantum = refl
+
+others_usual : (settings_in (4096 ∷ 7 ∷ [])).steps ≡ 4294967295
+others_usual = refl
+
+-- any number but 0 asks for plain memory
+any_plain : (settings_in (4096 ∷ 7 ∷ 9 ∷ 256 ∷ [])).plain ≡ 1
+any_plain = refl
+
+-- the keys come behind the bounds
+keys_last : (settings_in (4096 ∷ 7 ∷ 9 ∷ 0 ∷ 1 ∷ 2 ∷ 3 ∷ 4 ∷ [])).keys.second ≡ 4
+keys_last = refl
 
 -- 0 asks for no bound, and 1 is one
 no_bound : bound_in 0 7 ≡ 7

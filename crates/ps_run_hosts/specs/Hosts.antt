@@ -1,5 +1,5 @@
 -- What a host asks for, and what it is handed of a run.
-use Rattle.std.specs.Prelude.{◌≡◌, ◌≤◌, ◌++◌, ◌+◌, ◌^◌, ◌-◌, ◌⊎◌, ◌==◌, min, ℕ, ℤ, pos, Bool, true, false, not, List, Option, Some, None, Result, Ok, Err, take, drop, map, length, if◌then◌else◌}
+use Rattle.std.specs.Prelude.{◌≡◌, ◌<◌, ◌≤◌, ◌++◌, ◌+◌, ◌^◌, ◌-◌, ◌⊎◌, ◌==◌, min, ℕ, ℤ, pos, Bool, true, false, not, List, [], ◌∷◌, Option, Some, None, Result, Ok, Err, slice_index_or, take, drop, map, length, if◌then◌else◌}
 use Rattle.ps_language.specs.declared.schedules.Entry.{Entry}
 use Rattle.ps_language.specs.Effect.{Around, Scene}
 use Rattle.ps_language.specs.Schedules.{count_of, Begins}
@@ -10,6 +10,7 @@ use Rattle.ps_mem.specs.Heap.{Space}
 use Rattle.ps_mem.specs.Plain.{plain_space}
 use Rattle.ps_ctx_start.specs.declared.start.TheConstants.{ANY_OUTPUT}
 use Rattle.ps_run_schedules.specs.Texts.{AreEntries}
+use Rattle.ps_run_workers.specs.Slices.{budget_behind}
 use Rattle.ps_vault.specs.declared.reports.Config.{Config}
 use Rattle.ps_vault.specs.declared.reports.Outcome.{Outcome}
 use Rattle.ps_vault.specs.declared.reports.Outcome.TheVariants.{Finished, Faulted, AllWaiting, StepsOut, Memory}
@@ -17,10 +18,46 @@ use Rattle.ps_vault.specs.declared.reports.Report.{Report}
 use Rattle.ps_vault.specs.declared.reports.TheConstants.{ANY_ENTRIES}
 use Rattle.ps_vault.specs.Reports.{bounds_of, IsBounded, IsReplayOf, IsRunIn, IsWithin, is_memory}
 use Rattle.ps_run_hosts.specs.declared.hosting.Refusal.{Refusal}
-use Rattle.ps_run_hosts.specs.declared.hosting.Refusal.TheVariants.{OutOfRange, NoRoom, OtherSchedule, BadEntry}
+use Rattle.ps_run_hosts.specs.declared.hosting.Refusal.TheVariants.{OutOfRange, NoRoom, OtherSchedule, BadEntry, Closed, Open}
 use Rattle.ps_run_hosts.specs.declared.numbers.Settings.{Settings}
-use Rattle.ps_run_hosts.specs.declared.numbers.HostCounts.{HostCounts}
 use Rattle.ps_run_hosts.specs.declared.numbers.HostEntry.{HostEntry}
+
+-- a flag as a number
+abbrev pub number_of : Bool → ℕ
+number_of false = 0
+number_of true = 1
+
+-- ---- what a host asks for
+
+-- how many numbers of settings there are
+abbrev pub settings_known : ℕ
+settings_known = 8
+
+-- the settings by a host's numbers, in their order: one that it doesn't give is the usual one. So a
+-- host goes on working with a library that knows more
+abbrev pub settings_in : List ℕ → Settings
+settings_in numbers = record {
+  space = slice_index_or numbers 0 65536;
+  quantum = slice_index_or numbers 1 100;
+  steps = slice_index_or numbers 2 (2 ^ 32 - 1);
+  plain = number_of (not (slice_index_or numbers 3 0 == 0));
+  output = slice_index_or numbers 4 0;
+  entries = slice_index_or numbers 5 0;
+  keys = record { first = slice_index_or numbers 6 0; second = slice_index_or numbers 7 0 };
+}
+
+-- nothing is asked for that isn't known: the numbers behind the known ones are 0
+abbrev pub IsKnown : List ℕ → Type 0
+IsKnown numbers = (place : ℕ) → settings_known ≤ place → place < length numbers
+    → slice_index_or numbers place 0 ≡ 0
+
+-- such numbers are settings: those of the space, the quantum and the steps have 32 bits, and
+-- nothing is asked for that isn't known
+pub record AreSettings (numbers : List ℕ) : Type 0 where
+  pub space : (settings_in numbers).space < 2 ^ 32
+  pub quantum : (settings_in numbers).quantum < 2 ^ 32
+  pub steps : (settings_in numbers).steps < 2 ^ 32
+  pub known : IsKnown numbers
 
 -- a bound that a host gives, where 0 asks for the one that is none
 abbrev pub bound_in : (given none : ℕ) → ℕ
@@ -44,11 +81,6 @@ config_in settings = record {
 -- the space: one that is collected, or memory that grows
 abbrev pub space_in : Settings → Space
 space_in settings = if settings.plain == 0 then bounded_space settings.space else plain_space
-
--- a flag as a number
-abbrev pub number_of : Bool → ℕ
-number_of false = 0
-number_of true = 1
 
 -- an entry of a schedule as numbers, and back
 abbrev pub shown_to : Option (ℤ × ℤ) → ℕ × (ℤ × ℤ)
@@ -91,22 +123,32 @@ code_of_refusal OutOfRange = 16
 code_of_refusal NoRoom = 17
 code_of_refusal OtherSchedule = 18
 code_of_refusal BadEntry = 19
+code_of_refusal Closed = 20
+code_of_refusal Open = 21
+
+-- the code of what was told of a run
+abbrev pub code_told : Result Outcome Refusal → ℕ
+code_told (Ok outcome) = code_of outcome
+code_told (Err refusal) = code_of_refusal refusal
 
 -- the rooms of a host, before or after a call
 pub record Rooms : Type 0 where
   pub printed : List ℕ
   pub schedule : List HostEntry
-  pub counts : HostCounts
+  pub counts : List ℕ
+
+-- how much a run came to, in this order: the bytes that it printed, the entries of its schedule,
+-- its steps, the collector's cycles and the records that it took
+abbrev pub counts_of : Report → List ℕ
+counts_of report =
+    length report.printed.items ∷ length report.schedule.items
+    ∷ min (count_of report.schedule.items) (2 ^ 64 - 1) ∷ report.flips ∷ report.taken ∷ []
 
 -- the host was handed this report, and has its code
 pub record IsHanded (report : Report) (old new : Rooms) (code : ℕ) : Type 0 where
   pub printed : new.printed ≡ handed report.printed.items old.printed
   pub schedule : new.schedule ≡ handed (map handed_entry report.schedule.items) old.schedule
-  pub bytes : new.counts.bytes ≡ length report.printed.items
-  pub entries : new.counts.entries ≡ length report.schedule.items
-  pub steps : new.counts.steps ≡ min (count_of report.schedule.items) (2 ^ 64 - 1)
-  pub flips : new.counts.flips ≡ report.flips
-  pub taken : new.counts.taken ≡ report.taken
+  pub counts : new.counts ≡ handed (counts_of report) old.counts
   pub told : code ≡ code_of report.outcome
 
 -- what was made is handed out; where there is no run nothing is, and the code tells why
@@ -131,12 +173,17 @@ IsMade asks program settings (Err OutOfRange) = ¬ IsWithin (config_in settings)
 IsMade asks program settings (Err NoRoom) = IsWithin (config_in settings)
 IsMade asks program settings (Err OtherSchedule) = ⊥
 IsMade asks program settings (Err BadEntry) = ⊥
+IsMade asks program settings (Err Closed) = ⊥
+IsMade asks program settings (Err Open) = ⊥
 IsMade asks program settings (Ok report) =
     IsWithin (config_in settings) × IsRunFor asks program settings settings.steps report
 
--- the steps of a schedule and so many more, up to as many as a run may have
-abbrev pub budget_behind : (given : List Entry) → (steps : ℕ) → ℕ
-budget_behind given steps = min (count_of given + steps) (2 ^ 32 - 1)
+-- what is made of the numbers that a host gives: of their settings, where they are some, and else
+-- nothing, since one is out of its range
+abbrev pub IsMadeOf : {A : Type 0} → (numbers : List ℕ)
+    → (of : Settings → Result A Refusal → Type 0) → Result A Refusal → Type 0
+IsMadeOf numbers of made = (AreSettings numbers × of (settings_in numbers) made)
+    ⊎ ((¬ AreSettings numbers) × (made ≡ Err OutOfRange))
 
 -- a run goes on from a schedule: it begins with it; or memory was wanted on the way
 abbrev pub GoesOnFrom : (given : List Entry) → Report → Type 0
@@ -149,6 +196,8 @@ IsNotTaken given OutOfRange = ⊥
 IsNotTaken given NoRoom = AreEntries given
 IsNotTaken given OtherSchedule = ⊥
 IsNotTaken given BadEntry = ¬ AreEntries given
+IsNotTaken given Closed = ⊥
+IsNotTaken given Open = ⊥
 
 -- what is made where a host asks to go on from a schedule: as where it asks for a run, but with a
 -- budget behind the schedule, and the run goes on from it; or there is a run that doesn't; or an
@@ -165,6 +214,8 @@ IsGoneOn asks program settings given (Err OtherSchedule) = IsWithin (config_in s
     × ((report : Report)
     × IsRunFor asks program settings (budget_behind given settings.steps) report
     × (¬ GoesOnFrom given report))
+IsGoneOn asks program settings given (Err Closed) = ⊥
+IsGoneOn asks program settings given (Err Open) = ⊥
 IsGoneOn asks program settings given (Ok report) = IsWithin (config_in settings)
     × AreEntries given
     × IsRunFor asks program settings (budget_behind given settings.steps) report

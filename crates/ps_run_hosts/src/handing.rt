@@ -6,22 +6,22 @@ ghost use Rattle.ps_run_hosts.specs.Hosts as hosts;
 ghost use Rattle.ps_run_hosts.specs.Hosts.{handed, IsHanded, IsHandedOut, IsNotTaken};
 
 use crate::hosting::Refusal;
-use crate::numbers::{HostCounts, HostEntry, code_of, code_of_refusal, given_entry, handed_entry};
+use crate::numbers::{HostEntry, code_of, code_of_refusal, given_entry, handed_entry};
 use ps_language::schedules::Entry;
 use ps_run_schedules::{Entries, is_entry, steps_of};
 use ps_vault::Report;
 use std::alloc::{AllocError, Global};
 
-/// Writes as many of these bytes as there is room for.
-fn hand_bytes(bytes: &[u8], room: &mut [u8])
-    ensures { room.new ≡ handed bytes.now room.old }
+/// Writes as many of these bytes or numbers as there is room for.
+pub(crate) fn hand<T: Copy>(found: &[T], room: &mut [T])
+    ensures { room.new ≡ handed found.now room.old }
 {
-    let count = bytes.len().min(room.len());
-    room[..count].copy_from_slice(&bytes[..count]);
+    let count = found.len().min(room.len());
+    room[..count].copy_from_slice(&found[..count]);
 }
 
 /// Writes as many of these entries as there is room for.
-fn hand_entries(entries: Entries<'_>, room: &mut [HostEntry])
+pub(crate) fn hand_entries(entries: Entries<'_>, room: &mut [HostEntry])
     ensures { room.new ≡ handed (map hosts.handed_entry entries.entry) room.old }
 {
     let mut left = entries;
@@ -76,26 +76,33 @@ pub(crate) fn given_entries(alloc: Global, entries: &[HostEntry]) -> Result<Vec<
     }
 }
 
+/// How much a run came to, in the order in which a host has it.
+fn counts_of(report: &Report) -> [u64; 5]
+    ensures { result ≡ hosts.counts_of report.now }
+{
+    [
+        report.printed.len() as u64,
+        report.schedule.len() as u64,
+        steps_of(report.schedule.entries()),
+        u64::from(report.flips),
+        report.taken,
+    ]
+}
+
 /// Hands a report out as far as there is room, and gives its code.
 fn hand_report(
     report: &Report,
     printed: &mut [u8],
     schedule: &mut [HostEntry],
-    counts: &mut HostCounts,
+    counts: &mut [u64],
 ) -> u32
     ensures { IsHanded report.now
         (record { printed = printed.old; schedule = schedule.old; counts = counts.old })
         (record { printed = printed.new; schedule = schedule.new; counts = counts.new }) result }
 {
-    hand_bytes(report.printed.as_slice(), printed);
+    hand(report.printed.as_slice(), printed);
     hand_entries(report.schedule.entries(), schedule);
-    *counts = HostCounts {
-        bytes: report.printed.len() as u64,
-        entries: report.schedule.len() as u64,
-        steps: steps_of(report.schedule.entries()),
-        flips: u64::from(report.flips),
-        taken: report.taken,
-    };
+    hand(&counts_of(report), counts);
     code_of(report.outcome)
 }
 
@@ -105,7 +112,7 @@ pub fn hand_out(
     made: &Result<Report, Refusal>,
     printed: &mut [u8],
     schedule: &mut [HostEntry],
-    counts: &mut HostCounts,
+    counts: &mut [u64],
 ) -> u32
     ensures { IsHandedOut made.now
         (record { printed = printed.old; schedule = schedule.old; counts = counts.old })

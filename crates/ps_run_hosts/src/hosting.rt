@@ -2,6 +2,7 @@
 
 ghost use Rattle.std.specs.Prelude.{◌≡◌, ◌↔◌, map, IfOk, IsTrue};
 ghost use Rattle.ps_vault.specs.Reports.{bounds_of, IsBounded, IsRunIn};
+ghost use Rattle.ps_run_workers.specs.Slices as slices;
 ghost use Rattle.ps_run_hosts.specs.Hosts as hosts;
 ghost use Rattle.ps_run_hosts.specs.Hosts.{GoesOnFrom, IsFollowed, IsGoneOn, IsMade, space_in};
 
@@ -28,6 +29,10 @@ pub enum Refusal {
     OtherSchedule,
     /// An entry of the given schedule is none.
     BadEntry,
+    /// No run stands where one is to go on, or to be looked at.
+    Closed,
+    /// A run stands where one is to begin.
+    Open,
 }
 
 /// Runs a program by these settings.
@@ -52,7 +57,7 @@ pub fn run_for<S: Interpret + Drop, D: Deeds + Drop>(
 /// The budget of a run that goes on from a schedule: its steps and so many more, up to as many as a
 /// run may have.
 fn budget_behind(given: &[Entry], settings: &Settings) -> u32
-    ensures { result ≡ hosts.budget_behind given.now settings.now.steps }
+    ensures { result ≡ slices.budget_behind given.now settings.now.steps }
 {
     let steps = steps_of(Entries::of(given)).saturating_add(u64::from(settings.steps));
     steps.min(u64::from(u32::MAX)) as u32

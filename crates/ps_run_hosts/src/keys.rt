@@ -6,7 +6,6 @@ use std::random::RandomSource;
 
 /// Numbers that who wrote a program can't guess: with them it can't fill the table of names so that
 /// it is slow. Nothing else depends on them.
-#[repr(C)]
 #[derive(Clone, Copy, Debug, PartialEq, Eq)]
 pub struct Keys {
     pub first: u64,

@@ -1,7 +1,8 @@
 //! The numbers that a host and a run pass one another.
 
-ghost use Rattle.std.specs.Prelude.{◌≡◌};
+ghost use Rattle.std.specs.Prelude.{◌≡◌, ◌↔◌, ◌==◌, ◌<◌, ◌^◌, IfErr, IfOk, IfSome, IsTrue, None, not, slice_index_or};
 ghost use Rattle.ps_run_hosts.specs.Hosts as hosts;
+ghost use Rattle.ps_run_hosts.specs.Hosts.{AreSettings, IsKnown, settings_in};
 
 use crate::hosting::Refusal;
 use crate::keys::Keys;
@@ -9,7 +10,6 @@ use ps_language::schedules::Entry;
 use ps_vault::{ANY_ENTRIES, ANY_OUTPUT, Config, Outcome};
 
 /// What a host asks for.
-#[repr(C)]
 #[derive(Clone, Copy, Debug, PartialEq, Eq)]
 pub struct Settings {
     /// The words of the space, from 4,096 to 1,048,576.
@@ -29,22 +29,6 @@ pub struct Settings {
     pub keys: Keys,
 }
 
-/// How much a run came to, whatever the host had room for.
-#[repr(C)]
-#[derive(Clone, Copy, Debug, PartialEq, Eq)]
-pub struct HostCounts {
-    /// The bytes that it printed.
-    pub bytes: u64,
-    /// The entries of its schedule.
-    pub entries: u64,
-    /// Its steps, up to 18,446,744,073,709,551,615.
-    pub steps: u64,
-    /// The collector's cycles.
-    pub flips: u64,
-    /// The records that the collector took.
-    pub taken: u64,
-}
-
 /// An entry of a schedule.
 #[repr(C)]
 #[derive(Clone, Copy, Debug, PartialEq, Eq)]
@@ -60,6 +44,89 @@ pub struct HostEntry {
     /// The pair: the words used, and the words there are.
     pub used: i32,
     pub size: i32,
+}
+
+/// How many numbers of settings there are.
+const SETTINGS: usize = 8;
+
+/// The number at a place of those that a host gives, or the usual one, where it gives fewer.
+fn number_at(numbers: &[u64], place: usize, usual: u64) -> u64
+    ensures { result ≡ slice_index_or numbers.now place usual }
+{
+    match numbers.get(place) {
+        Some(number) => *number,
+        None => usual,
+    }
+}
+
+/// The same as a number of 32 bits, if it is one.
+fn short_at(numbers: &[u64], place: usize, usual: u32) -> Option<u32>
+    ensures short { IfSome result (λ short. (short ≡ slice_index_or numbers.now place usual)
+        × (slice_index_or numbers.now place usual < 2 ^ 32)) }
+    ensures long { result ≡ None → ¬ (slice_index_or numbers.now place usual < 2 ^ 32) }
+{
+    let number = number_at(numbers, place, u64::from(usual));
+    if number > u64::from(u32::MAX) {
+        return None;
+    }
+    Some(number as u32)
+}
+
+/// A number that is 0 or not, as 0 or 1.
+fn flag_at(numbers: &[u64], place: usize) -> u32
+    ensures { result ≡ hosts.number_of (not (slice_index_or numbers.now place 0 == 0)) }
+{
+    if number_at(numbers, place, 0) == 0 {
+        0
+    } else {
+        1
+    }
+}
+
+/// Whether nothing is asked for that isn't known.
+fn is_known(numbers: &[u64]) -> bool
+    ensures { IsTrue result ↔ IsKnown numbers.now }
+{
+    for place in SETTINGS..numbers.len() {
+        if numbers[place] != 0 {
+            return false;
+        }
+    }
+    true
+}
+
+/// The settings by a host's numbers: `space`, `quantum`, `steps`, `plain`, `output`, `entries`, and
+/// both keys. One that isn't given is the usual one: 65,536 words, turns of 100 steps, 4,294,967,295
+/// steps, and 0 for the others. The refusal is `OutOfRange`, where one of the first three has more
+/// than 32 bits, or a later number, of which this version knows nothing, isn't 0.
+pub fn settings_of(numbers: &[u64]) -> Result<Settings, Refusal>
+    ensures settings { IfOk result (λ settings. settings ≡ settings_in numbers.now
+        × AreSettings numbers.now) }
+    ensures refused { IfErr result (λ refusal. refusal ≡ Refusal.OutOfRange
+        × (¬ AreSettings numbers.now)) }
+{
+    let (Some(space), Some(quantum), Some(steps)) = (
+        short_at(numbers, 0, 65_536),
+        short_at(numbers, 1, 100),
+        short_at(numbers, 2, u32::MAX),
+    ) else {
+        return Err(Refusal::OutOfRange);
+    };
+    if !is_known(numbers) {
+        return Err(Refusal::OutOfRange);
+    }
+    Ok(Settings {
+        space,
+        quantum,
+        steps,
+        plain: flag_at(numbers, 3),
+        output: number_at(numbers, 4, 0),
+        entries: number_at(numbers, 5, 0),
+        keys: Keys {
+            first: number_at(numbers, 6, 0),
+            second: number_at(numbers, 7, 0),
+        },
+    })
 }
 
 /// The numbers of the run that is asked for; the host's own thread is the one worker.
@@ -104,7 +171,7 @@ pub(crate) fn code_of(outcome: Outcome) -> u32
 }
 
 /// The code of a call that made no run.
-pub(crate) fn code_of_refusal(refusal: Refusal) -> u32
+pub fn code_of_refusal(refusal: Refusal) -> u32
     ensures { result ≡ hosts.code_of_refusal refusal }
 {
     match refusal {
@@ -112,6 +179,18 @@ pub(crate) fn code_of_refusal(refusal: Refusal) -> u32
         Refusal::NoRoom => 17,
         Refusal::OtherSchedule => 18,
         Refusal::BadEntry => 19,
+        Refusal::Closed => 20,
+        Refusal::Open => 21,
+    }
+}
+
+/// The code of what was told of a run that stands.
+pub(crate) fn code_told(told: Result<Outcome, Refusal>) -> u32
+    ensures { result ≡ hosts.code_told told }
+{
+    match told {
+        Ok(outcome) => code_of(outcome),
+        Err(refusal) => code_of_refusal(refusal),
     }
 }
 

@@ -15,7 +15,7 @@ use clap::{ArgMatches, Command, Error};
 use std::alloc::{AllocError, Global};
 
 /// The version of the program, which `--version` tells.
-pub const VERSION: &str = "0.3.0";
+pub const VERSION: &str = "0.4.0";
 
 /// What is told where no program is given.
 const NO_SOURCE: &str = "the following required arguments were not provided:\n  \

@@ -32,7 +32,7 @@ use Rattle.ps_vault.specs.Stories.{Story, MayGo, AreWarranted, LacksRoom, few_wo
 use Rattle.ps_vault.specs.Warrants.{IsRefusal, many_steps, no_room, no_births, no_cycles}
 use Rattle.ps_vault.proofs.Following.{ready_not_over}
 use Rattle.ps_vault.proofs.Reasons.{memory_wanted}
-use Rattle.ps_vault.proofs.Screening.{prints_on, shown_on}
+use Rattle.ps_vault.proofs.Screening.{begins_then, prints_on, shown_on}
 use Rattle.ps_vault.proofs.Warrants.{ready_left, warranted_same}
 use Rattle.ps_run_workers.specs.Batons.{Progress, Start, MayGoOn, MayRefuse, IsStarvedAt, IsTight, IsWatched, Keeps}
 
@@ -186,6 +186,7 @@ pub keeps_ended : (asks : Status → Around → Scene → Asked) (start : Start)
 keeps_ended asks start p story outcome keeps program most schedule caller space flips more ends = record {
   program = program ∙ keeps.program;
   config = keeps.config;
+  begins = subst (λ (s : List Entry). Begins start.schedule s) (sym schedule) keeps.begins;
   watched = watched_same start.sight p story p.made (Some outcome) keeps.watched program schedule;
   numbers = keeps.numbers;
   few = keeps.few;
@@ -248,6 +249,7 @@ keeps_seen : (asks : Status → Around → Scene → Asked) (start : Start) (p :
 keeps_seen asks start p sight budget keeps shows same still within few whole waits judged = record {
   program = keeps.program;
   config = keeps.config;
+  begins = keeps.begins;
   watched = watched_more start.sight p sight budget keeps.watched shows same still;
   numbers = keeps.numbers;
   few = keeps.few;
@@ -315,6 +317,7 @@ keeps_moved asks start p story keeps same few =
     (record {
       program = keeps.program;
       config = keeps.config;
+      begins = keeps.begins;
       watched = record {
         shown = keeps.watched.shown;
         watching = keeps.watched.watching;
@@ -439,6 +442,8 @@ pub keeps_made : (asks : Status → Around → Scene → Asked) (start : Start) 
 keeps_made asks start p story count outcome keeps goes within waits judged = record {
   program = goes.program ∙ keeps.program;
   config = keeps.config;
+  begins = begins_then start.schedule p.story.schedule story.schedule keeps.begins
+      goes.begins;
   watched = watched_on start.sight p story (p.made + count) outcome keeps.watched
       (prints_on p.story story goes.program goes.begins);
   numbers = keeps.numbers;
@@ -483,6 +488,7 @@ keeps_wanted asks start p story context refused keeps may program most schedule 
     record {
       program = program ∙ keeps.program;
       config = keeps.config;
+      begins = subst (λ (s : List Entry). Begins start.schedule s) (sym schedule) keeps.begins;
       watched = watched_same start.sight p story p.made (Some End) keeps.watched program schedule;
       numbers = keeps.numbers;
       few = keeps.few;

@@ -1,8 +1,9 @@
 -- What clauses see of a baton, and what it keeps.
-use Rattle.std.specs.Prelude.{◌≡◌, ◌+◌, ◌*◌, ◌<◌, ◌≤◌, ◌^◌, ◌==◌, ◌⊎◌, ℕ, true, false, List, Option, IfSome, Result, IfOk, OnErr, length}
+use Rattle.std.specs.Prelude.{◌≡◌, ◌+◌, ◌*◌, ◌<◌, ◌≤◌, ◌^◌, ◌==◌, ◌⊎◌, ℕ, true, false, List, [], Option, IfSome, Result, IfOk, OnErr, length}
+use Rattle.ps_language.specs.declared.schedules.Entry.{Entry}
 use Rattle.ps_language.specs.Effect.{Around, Scene}
 use Rattle.ps_language.specs.Locks.{is_ready}
-use Rattle.ps_language.specs.Schedules.{count_of, moves}
+use Rattle.ps_language.specs.Schedules.{Begins, count_of, moves}
 use Rattle.ps_language.specs.World.{Status}
 use Rattle.ps_ops_state.specs.Acts.{Asked}
 use Rattle.ps_mem.specs.Bounded.{bounded_space}
@@ -16,11 +17,18 @@ use Rattle.ps_vault.specs.Screens.{HasShown, HasShownSome, Sight}
 use Rattle.ps_vault.specs.Stories.{Story, MayGo, AreWarranted, UsesOnlyLive, kept_of, world_at}
 use Rattle.ps_vault.specs.Warrants.{IsRefusal, many_steps}
 
--- what a run began with: its program, its numbers, and what its viewer had seen
+-- what a run began with, or goes on from: its program, its numbers, what its viewer had seen, and the
+-- steps that were made before
 pub record Start : Type 0 where
   pub program : List ℕ
   pub config : Config
   pub sight : Sight
+  pub schedule : List Entry
+
+-- what a run begins with from its first step
+abbrev pub beginning : (program : List ℕ) → Config → Sight → Start
+beginning program config sight =
+    record { program = program; config = config; sight = sight; schedule = [] }
 
 -- the vault's story, the numbers of the run, the steps that were made, the most that may be, what
 -- was shown, and how the run ended, if it has
@@ -50,7 +58,8 @@ pub record IsWatched (first : Sight) (p : Progress) : Type 0 where
   pub watching : p.sight.watching ≡ first.watching
   pub still : first.watching ≡ false → p.sight ≡ first
 
--- The program and the numbers are those that the run began with. The steps are counted and within
+-- The program and the numbers are those that the run began with, and its steps come behind those that
+-- were made before. The steps are counted and within
 -- the budget, which is the run's unless showing failed, and a schedule can have their numbers; the
 -- output's bound and the space are those of the run; what the steps are shown, and that they are
 -- refused, is warranted in that space; whose call waits may go on; at most three cycles were flipped
@@ -59,6 +68,7 @@ pub record Keeps (asks : Status → Around → Scene → Asked) (start : Start) 
     : Type 0 where
   pub program : p.story.program ≡ start.program
   pub config : p.config ≡ start.config
+  pub begins : Begins start.schedule p.story.schedule
   pub watched : IsWatched start.sight p
   pub numbers : IsWithin p.config
   pub few : p.config.steps < 2 ^ 32

@@ -4,14 +4,14 @@
 //! within the budget, that each refused one was refused for a reason, that what was shown is a
 //! beginning of what was printed, and that an outcome, once it stands, is that of the vault's world.
 
-ghost use Rattle.std.specs.Prelude.{◌≡◌, length, ◌==◌, ◌+◌, ◌<◌, ◌≤◌, ◌≢◌, true, false, IfErr, IfOk, IfSome, IfNone, IsErr, IsSome, None, Err};
+ghost use Rattle.std.specs.Prelude.{◌≡◌, [], length, ◌==◌, ◌+◌, ◌<◌, ◌≤◌, ◌≢◌, true, false, IfErr, IfOk, IfSome, IfNone, IsErr, IsSome, None, Err};
 ghost use Rattle.ps_ctx_start.specs.Starts.{IsEmptyHeap};
 ghost use Rattle.ps_vault.specs.Holds.{IfForRoom, IsHeldUp};
 ghost use Rattle.ps_vault.specs.Order.{IsNoneAbove};
 ghost use Rattle.ps_vault.specs.Reports.{EndsAs, IsWithin};
 ghost use Rattle.ps_vault.specs.Stories.{world_at};
 ghost use Rattle.ps_ctx.specs.Needs.{step_wants};
-ghost use Rattle.ps_run_workers.specs.Batons.{GoesOn, HasEnded, IsStarvedAt, MayGoOn, MayRefuse};
+ghost use Rattle.ps_run_workers.specs.Batons.{GoesOn, HasEnded, IsStarvedAt, MayGoOn, MayRefuse, beginning};
 
 use crate::origins::Origin;
 use crate::paces::Pace;
@@ -58,18 +58,18 @@ pub(crate) struct Baton<
     /// Whose turn was the last, or goes on.
     pub(crate) after: u32,
     /// How many steps that turn may still have; 0 where it is over.
-    rest: u32,
+    pub(crate) rest: u32,
     pub(crate) outcome: Option<Outcome>,
     pub(crate) screen: Screen<V>,
     /// Whether all threads were started.
-    started: bool,
+    pub(crate) started: bool,
     /// A thread could not be started.
-    refused: bool,
+    pub(crate) refused: bool,
     /// When a cycle is opened.
     pub(crate) pace: Pace,
     /// What workers and the collector's thread wait for.
     pub(crate) waits: Waits,
-    of: PhantomData<O>,
+    pub(crate) of: PhantomData<O>,
 }
 
 impl<'a, O: Origin, M: Memory + Drop, S: Interpret + Drop, D: Deeds + Drop, V: Viewer + Drop> Model
@@ -118,11 +118,11 @@ impl<'a, O: Origin, M: Memory + Drop, S: Interpret + Drop, D: Deeds + Drop, V: V
         requires sized { (M.heap memory).space.size ≡ job.config.space }
         requires unmoved { (M.heap memory).space.flips ≡ 0 }
         requires numbers { IsWithin job.config }
-        requires start { O.start
-            ≡ record { program = job.program.now; config = job.config; sight = screen } }
+        requires start { O.start ≡ beginning job.program.now job.config screen }
         requires nothing { screen.shown ≡ 0 }
         requires going { screen.failed ≡ false }
         ensures fault { IfErr result (λ given. given ≡ screen) }
+        ensures fresh { IfOk result (λ baton. baton.story.schedule ≡ []) }
     {
         let config = job.config;
         prove!(config.steps <= u32::MAX);
@@ -235,6 +235,14 @@ impl<O: Origin, M: Memory + Drop, S: Interpret + Drop, D: Deeds + Drop, V: Viewe
             return self.rest;
         }
         self.config.quantum
+    }
+
+    /// Whether the turn of a context goes on: it may have more steps, and the context is ready, as far
+    /// as no call waits.
+    pub(crate) fn turn_goes_on(&mut self, context: u32) -> bool
+        ensures { self.new ≡ self.old }
+    {
+        self.rest > 0 && self.vault.caller().is_none() && self.vault.is_ready(context)
     }
 
     /// The turn that goes on is over: the next one is another context's, if one is ready.

@@ -35,6 +35,12 @@
 //!   where nothing may wait, and its return is proved. It takes from a schedule whose turns come
 //!   first, and makes them as its own: so a turn that the schedule ends in goes on behind it, as it
 //!   would in a run that wasn't cut.
+//! - A run that stands (`Standing`) is a baton that is taken apart between slices, and put together for
+//!   each: its vault is lent the program that the run owns. The baton's type names what it goes on
+//!   from, so what was made before stays its beginning. No one has to change the crates below.
+//! - Over plain words the collector acts behind whole turns, behind a `vmreclaim` and, in an open cycle,
+//!   behind each step, and not wherever a batch of steps happened to end. So where slices lie can't be
+//!   seen in what `vmstatus` shows.
 //! - Each memory gets marks of names here (`Marked`), around what is given.
 //! - A gate is a memory around a memory (`Gated`) and a collector around a collector
 //!   (`GatedCollector`), so a run without one pays nothing. That it is told of each store is shown by
@@ -47,10 +53,13 @@ mod gates;
 mod loops;
 mod origins;
 mod paces;
+mod pauses;
 mod runs;
 mod serial;
 mod serving;
+mod standing;
 mod waits;
 
 pub use gates::Gate;
-pub use runs::{run, run_alone, run_gated, run_serial, run_shown};
+pub use runs::{SpaceRun, run, run_alone, run_gated, run_serial, run_shown, stand};
+pub use standing::Standing;

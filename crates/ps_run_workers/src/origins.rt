@@ -19,5 +19,6 @@ impl Origin for Brand {
       program = [];
       config = record { space = 0; workers = 0; quantum = 0; steps = 0; output = 0; entries = 0 };
       sight = record { seen = None; watching = false; shown = 0; failed = false };
+      schedule = [];
     } };
 }

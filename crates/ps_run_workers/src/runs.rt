@@ -8,7 +8,8 @@ ghost use Rattle.ps_mem.specs.Heap.{empty_heap};
 ghost use Rattle.ps_core_laws.specs.Memory.{heap_of};
 ghost use Rattle.ps_ctx_start.specs.Starts.{IsEmptyHeap};
 ghost use Rattle.ps_vault.specs.Reports.{bounds_of, IsBounded, IsRunIn, IsWithin};
-ghost use Rattle.ps_run_workers.specs.Batons.{HasEnded};
+ghost use Rattle.ps_run_workers.specs.Batons.{HasEnded, beginning};
+ghost use Rattle.ps_run_workers.specs.Slices.{HasBegun};
 
 use crate::batons::Baton;
 use crate::gates::{Gate, Gated, GatedCollector};
@@ -16,6 +17,7 @@ use crate::loops::{Desk, work_all, work_all_serially};
 use crate::origins::Origin;
 use crate::serial::SerialBaton;
 use crate::serving::Lent;
+use crate::standing::Standing;
 use ps_core_laws::collected::CollectedMemory;
 use ps_core_laws::sides::{Collects, LoggedMemory, Past, Works};
 use ps_ctx::deeds::Deeds;
@@ -32,6 +34,9 @@ use std::hash::RandomState;
 use std::marker::Brand;
 use std::sync::{Mutex, Wait};
 use std::thread::Threads;
+
+/// A run that stands, in a space whose collector works between steps.
+pub type SpaceRun<S, D> = Standing<Marked<CollectedSpace<PlainWords>>, S, D, Past<Inside>>;
 
 /// A run that can't begin for want of memory.
 fn no_memory<V: Viewer + Drop>(screen: Screen<V>) -> Watched<V>
@@ -60,8 +65,7 @@ fn run_beside<
     requires sized { (M.heap sides.0).space.size ≡ job.config.space }
     requires unmoved { (M.heap sides.0).space.flips ≡ 0 }
     requires within { IsWithin job.config }
-    requires start { O.start
-        ≡ record { program = job.program.now; config = job.config; sight = screen } }
+    requires start { O.start ≡ beginning job.program.now job.config screen }
     requires nothing { screen.shown ≡ 0 }
     requires going { screen.failed ≡ false }
     ensures ended { HasEnded S.asks O.start result.report result.screen }
@@ -108,11 +112,8 @@ fn run_named<
     requires heap { heap_of seats.0.seat.me.0.vm ≡ empty_heap (bounded_space job.config.space) }
     requires nothing { screen.shown ≡ 0 }
     requires going { screen.failed ≡ false }
-    ensures ended { HasEnded S.asks (record {
-      program = job.entry.program.now;
-      config = job.entry.config;
-      sight = screen;
-    }) result.report result.screen }
+    ensures ended { HasEnded S.asks
+        (beginning job.entry.program.now job.entry.config screen) result.report result.screen }
     ensures fault { result.report ≢ Err RunFault.Config }
 {
     let (vm, gc) = seats;
@@ -195,11 +196,8 @@ pub fn run_shown<
     requires going { screen.failed ≡ false }
     ensures config { (result.report ≡ Err RunFault.Config) ↔ ¬ IsWithin job.entry.config }
     ensures unbegun { result.report ≡ Err RunFault.Config → result.screen ≡ screen }
-    ensures ended { HasEnded S.asks (record {
-      program = job.entry.program.now;
-      config = job.entry.config;
-      sight = screen;
-    }) result.report result.screen }
+    ensures ended { HasEnded S.asks
+        (beginning job.entry.program.now job.entry.config screen) result.report result.screen }
 {
     if !job.config.is_within() {
         return Watched {
@@ -254,8 +252,7 @@ fn run_serial_in<
     requires empty { IsEmptyHeap (M.heap sides.0) }
     requires sized { (M.heap sides.0).space.size ≡ job.config.space }
     requires unmoved { (M.heap sides.0).space.flips ≡ 0 }
-    requires start { O.start
-        ≡ record { program = job.program.now; config = job.config; sight = screen } }
+    requires start { O.start ≡ beginning job.program.now job.config screen }
     requires nothing { screen.shown ≡ 0 }
     requires going { screen.failed ≡ false }
     requires unseen { screen.watching ≡ false }
@@ -335,6 +332,26 @@ pub fn run_alone<S: Interpret + Drop, D: Deeds + Drop>(
     )
 }
 
+/// A run that is made alone, before its first step: its slices are made by whoever has it. Of the
+/// numbers `steps` and `workers` must be in their ranges, and aren't looked at. The faults are those
+/// of `run`.
+pub fn stand<S: Interpret + Drop, D: Deeds + Drop>(
+    alloc: Global,
+    job: Job<'_, S, D>,
+) -> Result<SpaceRun<S, D>, RunFault>
+    ensures config { (result ≡ Err RunFault.Config) ↔ ¬ IsWithin job.entry.config }
+    ensures begun { IfOk result (HasBegun job.entry.program.now job.entry.config) }
+{
+    if !job.config.is_within() {
+        return Err(RunFault::Config);
+    }
+    let Ok(memory) = space_of(alloc, job.config) else {
+        return Err(RunFault::Memory);
+    };
+    let marked = Marked::new(alloc, memory);
+    Standing::new(alloc, (marked, Past(Inside)), job)
+}
+
 /// Over a memory of the configuration's size in which nothing stands. The run picks its name.
 fn run_alone_in<
     O: Origin,
@@ -352,8 +369,7 @@ fn run_alone_in<
     requires empty { IsEmptyHeap (M.heap sides.0) }
     requires sized { (M.heap sides.0).space.size ≡ job.config.space }
     requires unmoved { (M.heap sides.0).space.flips ≡ 0 }
-    requires start { O.start
-        ≡ record { program = job.program.now; config = job.config; sight = screen } }
+    requires start { O.start ≡ beginning job.program.now job.config screen }
     requires nothing { screen.shown ≡ 0 }
     requires going { screen.failed ≡ false }
     requires unseen { screen.watching ≡ false }

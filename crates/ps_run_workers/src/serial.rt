@@ -6,7 +6,7 @@ ghost use Rattle.ps_mem.specs.Bounded.{bounded_space};
 ghost use Rattle.ps_ctx_start.specs.Starts.{IsEmptyHeap};
 ghost use Rattle.ps_vault.specs.Holds.{IsHeldUp};
 ghost use Rattle.ps_vault.specs.Reports.{bounds_of, IsBounded, IsRunIn, IsWithin};
-ghost use Rattle.ps_run_workers.specs.Batons.{GoesOn, SameProgress, MayGoOn};
+ghost use Rattle.ps_run_workers.specs.Batons.{GoesOn, SameProgress, MayGoOn, beginning};
 
 use crate::batons::{Baton, TURNS};
 use crate::origins::Origin;
@@ -61,8 +61,7 @@ impl<
         requires empty { IsEmptyHeap (M.heap sides.0) }
         requires sized { (M.heap sides.0).space.size ≡ job.config.space }
         requires unmoved { (M.heap sides.0).space.flips ≡ 0 }
-        requires start { O.start
-            ≡ record { program = job.program.now; config = job.config; sight = screen } }
+        requires start { O.start ≡ beginning job.program.now job.config screen }
         requires nothing { screen.shown ≡ 0 }
         requires going { screen.failed ≡ false }
         ensures config { (result ≡ Err RunFault.Config) ↔ ¬ IsWithin job.entry.config }
@@ -143,7 +142,7 @@ impl<
 > Baton<'_, O, M, S, D, V> {
     /// A turn of the next context, or what is left of the one that goes on: at most a quantum of its
     /// steps, and only one while a cycle is open. True: the run is over, or a thread could not be started.
-    fn serial_turn<C: Collects<M>>(&mut self, lent: &mut Lent<C>) -> bool
+    pub(crate) fn serial_turn<C: Collects<M>>(&mut self, lent: &mut Lent<C>) -> bool
         ensures goes_on { GoesOn self.old self.new }
         ensures over { IsSome self.old.outcome → self.new ≡ self.old }
     {
@@ -201,10 +200,22 @@ impl<
         ensures goes_on { GoesOn self.old self.new }
     {
         match self.advance(context, most) {
-            Ok(wish) => self.collect_serially(wish, lent),
+            Ok(wish) => {
+                if wish.is_some() || self.is_between(context) {
+                    self.collect_serially(wish, lent);
+                }
+            }
             Err(NotMade::NeedSpace(_)) => self.make_room(context, lent),
             Err(reason) => self.relieve(context, reason, lent),
         }
+    }
+
+    /// Whether it is a time for the collector, behind steps of a context: their turn is over, or a
+    /// cycle is open. So it can't be seen where the steps that were asked for were used up.
+    fn is_between(&mut self, context: u32) -> bool
+        ensures { self.new ≡ self.old }
+    {
+        self.vault.is_open() || !self.turn_goes_on(context)
     }
 
     /// The collector makes what room it can, and a step that found none is tried again: it is

@@ -2,6 +2,7 @@ pub mod Cycles
 pub mod Endings
 pub mod Holds
 pub mod Order
+pub mod Parking
 pub mod Reports
 pub mod Screens
 pub mod Stories

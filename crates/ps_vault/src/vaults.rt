@@ -44,10 +44,10 @@ use std::marker::Model;
 /// are closed.
 #[derive(Drop)]
 pub struct Vault<'a, M: Memory + Drop, S: Interpret + Drop, D: Deeds + Drop> {
-    makers: Makers<S, D>,
+    pub(crate) makers: Makers<S, D>,
     pub(crate) world: World,
     pub(crate) runtime: Runtime<'a, M>,
-    schedule: Schedule,
+    pub(crate) schedule: Schedule,
 }
 
 impl<'a, M: Memory + Drop, S: Interpret + Drop, D: Deeds + Drop> Model for Vault<'a, M, S, D> {

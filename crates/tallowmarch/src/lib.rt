@@ -4,30 +4,41 @@
 //! Why so:
 //! - What crosses is flat, a room as a pointer and a number, so an export has more parameters than
 //!   another function.
-//! - An export has no handle: it takes no lock and starts no thread, so it returns.
+//! - An export has no leave of the kit's to wait or to start threads: it takes no lock, so it returns.
+//! - What stands between calls is a box behind a pointer, in a struct that the host declares. The
+//!   struct owns the box, by a formula beside its fields, so a call's contract speaks of the run that
+//!   stood before and behind. An empty handle is a value like any other.
 #![tactic(auto)]
 
 ghost use Rattle.std.specs.Prelude.{◌≡◌, map, Result};
 ghost use Rattle.ps_vault.specs.declared.reports.Report.{Report};
 ghost use Rattle.ps_run_hosts.specs.declared.hosting.Refusal.{Refusal};
-ghost use Rattle.ps_run_hosts.specs.Hosts.{given_entry, IsFollowed, IsGoneOn, IsHandedOut, IsMade};
+ghost use Rattle.ps_run_hosts.specs.Hosts.{given_entry, IsFollowed, IsGoneOn, IsHandedOut, IsMade, IsMadeOf};
 
+mod engines;
+mod handles;
+mod loose;
+mod slices;
+
+pub use engines::Engine;
+pub use handles::{Handle, Run};
 use ps_ctx::makers::Makers;
 use ps_ctx_operators::operators::WorldOperators;
 use ps_ops::operators::Operators;
-use ps_run_hosts::{HostCounts, HostEntry, Settings, go_on_for, hand_out, replay_for, run_for};
+use ps_run_hosts::{HostEntry, Refusal, go_on_for, hand_out, replay_for, run_for, settings_of};
 use ps_step::steps::Steps;
 use ps_step_interpreter::interprets::Interpret;
+use ps_vault::Report;
 use std::alloc::Global;
 
 /// The version of this interface: 10,000 for each first number, 100 for each second one, 1 for each
 /// third one.
-const VERSION: u32 = 300;
+const VERSION: u32 = 400;
 
 /// The version of this interface, which a host compares with that of its header.
 #[unsafe(no_mangle)]
 pub extern "C" fn tallowmarch_version() -> u32
-    ensures { result ≡ 300 }
+    ensures { result ≡ 400 }
 {
     VERSION
 }
@@ -40,29 +51,74 @@ fn makers(alloc: Global) -> Makers<Steps<Operators>, WorldOperators> {
     }
 }
 
+/// Runs a program by a host's numbers (`run_for`).
+fn run_by(alloc: Global, program: &[u8], numbers: &[u64]) -> Result<Report, Refusal>
+    ensures { IsMadeOf numbers.now
+        (IsMade ⟦<Steps<Operators> as Interpret>⟧.asks program.now) result }
+{
+    match settings_of(numbers) {
+        Ok(by) => run_for(alloc, makers(alloc), program, &by),
+        Err(refusal) => Err(refusal),
+    }
+}
+
+/// Goes on from a schedule by a host's numbers (`go_on_for`).
+fn go_on_by(
+    alloc: Global,
+    program: &[u8],
+    numbers: &[u64],
+    given: &[HostEntry],
+) -> Result<Report, Refusal>
+    ensures { IsMadeOf numbers.now (λ by. IsGoneOn ⟦<Steps<Operators> as Interpret>⟧.asks
+        program.now by (map given_entry given.now)) result }
+{
+    match settings_of(numbers) {
+        Ok(by) => go_on_for(alloc, makers(alloc), program, &by, given),
+        Err(refusal) => Err(refusal),
+    }
+}
+
+/// Follows a schedule by a host's numbers (`replay_for`).
+fn replay_by(
+    alloc: Global,
+    program: &[u8],
+    numbers: &[u64],
+    given: &[HostEntry],
+) -> Result<Report, Refusal>
+    ensures { IsMadeOf numbers.now (λ by. IsFollowed ⟦<Steps<Operators> as Interpret>⟧.asks
+        program.now by (map given_entry given.now)) result }
+{
+    match settings_of(numbers) {
+        Ok(by) => replay_for(alloc, makers(alloc), program, &by, given),
+        Err(refusal) => Err(refusal),
+    }
+}
+
 /// Runs a program, and hands out what it printed, its schedule and its counts. The result says how
 /// it ended: 0 where each context finished, 1 where an error was printed too, 3 where all contexts
 /// wait, 4 where the steps are used up, 5 where memory was wanted, or more was to be printed than
 /// may be, or the schedule was to have more entries than it may. With 16 a number is out of its
 /// range, and with 17 there was no room to start with: then nothing is written.
 ///
-/// Of the bytes and of the entries as many are written as there is room for, from the first on.
+/// Settings are numbers in the order of `settings_of`, as many of them as the host knows. Of the
+/// bytes, the entries and the counts as many are written as there is room for, from the first on.
 #[unsafe(no_mangle)]
 pub extern "C" fn tallowmarch_run(
     alloc: Global,
     program: &[u8],
-    settings: &Settings,
+    settings: &[u64],
     printed: &mut [u8],
     schedule: &mut [HostEntry],
-    counts: &mut HostCounts,
+    counts: &mut [u64],
 ) -> u32
     ensures { (made : Result Report Refusal)
-        × IsMade ⟦<Steps<Operators> as Interpret>⟧.asks program.now settings.now made
+        × IsMadeOf settings.now
+        (IsMade ⟦<Steps<Operators> as Interpret>⟧.asks program.now) made
         × IsHandedOut made
         (record { printed = printed.old; schedule = schedule.old; counts = counts.old })
         (record { printed = printed.new; schedule = schedule.new; counts = counts.new }) result }
 {
-    let made = run_for(alloc, makers(alloc), program, settings);
+    let made = run_by(alloc, program, settings);
     hand_out(&made, printed, schedule, counts)
 }
 
@@ -75,20 +131,20 @@ pub extern "C" fn tallowmarch_run(
 pub extern "C" fn tallowmarch_go_on(
     alloc: Global,
     program: &[u8],
-    settings: &Settings,
+    settings: &[u64],
     given: &[HostEntry],
     printed: &mut [u8],
     schedule: &mut [HostEntry],
-    counts: &mut HostCounts,
+    counts: &mut [u64],
 ) -> u32
     ensures { (made : Result Report Refusal)
-        × IsGoneOn ⟦<Steps<Operators> as Interpret>⟧.asks program.now settings.now
-        (map given_entry given.now) made
+        × IsMadeOf settings.now (λ by. IsGoneOn ⟦<Steps<Operators> as Interpret>⟧.asks
+        program.now by (map given_entry given.now)) made
         × IsHandedOut made
         (record { printed = printed.old; schedule = schedule.old; counts = counts.old })
         (record { printed = printed.new; schedule = schedule.new; counts = counts.new }) result }
 {
-    let made = go_on_for(alloc, makers(alloc), program, settings, given);
+    let made = go_on_by(alloc, program, settings, given);
     hand_out(&made, printed, schedule, counts)
 }
 
@@ -101,19 +157,19 @@ pub extern "C" fn tallowmarch_go_on(
 pub extern "C" fn tallowmarch_replay(
     alloc: Global,
     program: &[u8],
-    settings: &Settings,
+    settings: &[u64],
     given: &[HostEntry],
     printed: &mut [u8],
     schedule: &mut [HostEntry],
-    counts: &mut HostCounts,
+    counts: &mut [u64],
 ) -> u32
     ensures { (made : Result Report Refusal)
-        × IsFollowed ⟦<Steps<Operators> as Interpret>⟧.asks program.now settings.now
-        (map given_entry given.now) made
+        × IsMadeOf settings.now (λ by. IsFollowed ⟦<Steps<Operators> as Interpret>⟧.asks
+        program.now by (map given_entry given.now)) made
         × IsHandedOut made
         (record { printed = printed.old; schedule = schedule.old; counts = counts.old })
         (record { printed = printed.new; schedule = schedule.new; counts = counts.new }) result }
 {
-    let made = replay_for(alloc, makers(alloc), program, settings, given);
+    let made = replay_by(alloc, program, settings, given);
     hand_out(&made, printed, schedule, counts)
 }

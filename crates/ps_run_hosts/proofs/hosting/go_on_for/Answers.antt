@@ -3,7 +3,8 @@ use Rattle.std.proofs.Common.{◌≡◌, List, map, ap, sym, subst, ◌∙◌}
 use Rattle.std.proofs.lemmas.Bool.{true≢false}
 use Rattle.ps_language.specs.declared.schedules.Entry.{Entry}
 use Rattle.ps_vault.specs.Reports.{IsRunIn, IsWithin}
-use Rattle.ps_run_hosts.specs.Hosts.{GoesOnFrom, budget_behind, given_entry, space_in}
+use Rattle.ps_run_workers.specs.Slices.{budget_behind}
+use Rattle.ps_run_hosts.specs.Hosts.{GoesOnFrom, given_entry, space_in}
 use Rattle.ps_run_hosts.proofs.hosting.go_on_for.Goals as goal
 
 pub returns-then-not-goes_on_from : goal.returns-then-not-goes_on_from

@@ -8,7 +8,7 @@ use Rattle.ps_language.proofs.ScheduleLaws.{count_of-nil}
 use Rattle.std.specs.Prelude.{None}
 use Rattle.ps_vault.proofs.Warrants.{nothing_warranted}
 use Rattle.ps_vault.specs.Stories.{world_at}
-use Rattle.ps_vault.proofs.Screening.{none_shown}
+use Rattle.ps_vault.proofs.Screening.{begins_same, none_shown}
 use Rattle.ps_run_workers.specs.Batons.{IsWatched, Start}
 use Rattle.ps_run_workers.proofs.Keeping.{progress, waits_none}
 use Rattle.ps_run_workers.proofs.batons.Baton.new.Goals as goal
@@ -19,6 +19,8 @@ invariant_of-result g c = record {
   program = c.in-Ok.ensures.program ∙ c.into_task.ensures.program
       ∙ ap (λ (s : Start). s.program) (sym c.requires.start);
   config = ap (λ (s : Start). s.config) (sym c.requires.start);
+  begins = begins_same g.O.Origin.start.schedule c.in-Ok.vault.schedule
+      (c.in-Ok.ensures.schedule ∙ ap (λ (s : Start). s.schedule) (sym c.requires.start));
   watched = subst (λ (s : Start). IsWatched s.sight (progress c.in-Ok.vault c.args.job.config 0
       c.args.job.config.steps c.args.screen None)) (sym c.requires.start) (record {
         shown = none_shown c.args.screen (world_at c.in-Ok.vault).printed

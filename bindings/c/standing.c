@@ -1,0 +1,323 @@
+/* Tries runs that stand between calls as a host in C makes them: slices of random sizes come to what one call does, each code, refused memory, and
+ * handles that go from thread to thread. With a number and files it makes the programs of these in slices, the sizes being of that number. tools/embedded
+ * builds and runs it. It tells what differs; the last line is 'N passed, M failed'.
+ */
+#include "tallowmarch.h"
+
+#include <pthread.h>
+#include <stdio.h>
+#include <stdlib.h>
+#include <string.h>
+
+static int passed, failed;
+
+static void count(int so, const char *what) {
+    if (so) {
+        passed++;
+    } else {
+        failed++;
+        printf("%s\n", what);
+    }
+}
+
+/* The allocations that the calls on this thread may still make, those that they asked for, and the blocks that stand. */
+static _Thread_local long left = 1L << 40, asked;
+static long standing;
+
+tallowmarch_block rattle_alloc(size_t size, size_t align) {
+    asked++;
+    if (align > 16 || left-- <= 0) return (tallowmarch_block){0, &left};
+    __atomic_add_fetch(&standing, 1, __ATOMIC_RELAXED);
+    return (tallowmarch_block){1, malloc(size ? size : 1)};
+}
+
+tallowmarch_block rattle_realloc(void *at, size_t old_size, size_t size, size_t align) {
+    (void)old_size;
+    asked++;
+    if (align > 16 || left-- <= 0) return (tallowmarch_block){0, &left};
+    return (tallowmarch_block){1, realloc(at, size ? size : 1)};
+}
+
+void rattle_dealloc(void *at) {
+    __atomic_sub_fetch(&standing, 1, __ATOMIC_RELAXED);
+    free(at);
+}
+
+/* Programs whose schedule depends on turns, on what vmstatus shows, on refusals and on when the collector acts. */
+static const char *const texts[] = {
+    "1 1 100 { = } for",
+    "/made 0 def /turn lock def\n"
+    "/work { 200 { turn { /made made 1 add store } monitor 10 string pop yield } repeat } def\n"
+    "mark { work } fork mark { work } fork mark { work } fork 3 { join cleartomark } repeat made =\n",
+    "/work { 12 { vmstatus pop exch pop = 300 array pop { 4000 array pop } stopped { pop } if yield } repeat } def\n"
+    "mark { work } fork mark { work } fork work join cleartomark join cleartomark 1 1 40 { pop vmstatus pop exch pop = } for\n",
+    "20 { 100 array pop } repeat 1 vmreclaim vmstatus pop exch pop = 200 { 50 array pop vmstatus pop exch pop = 2 vmreclaim } repeat",
+    "-2 vmreclaim 30 { 90 array pop vmstatus pop exch pop = } repeat 0 vmreclaim 90 { 90 array pop vmstatus pop exch pop = } repeat",
+    "/l lock def /c condition def /on false def mark { l { { on { exit } if l c wait } loop } monitor (waited) = } fork\n"
+    "300 { 30 array pop } repeat l { /on true store c notify } monitor join cleartomark (joined) =",
+    "mark { 1 0 idiv } fork join cleartomark { } loop",
+    "/l lock def /c condition def l { l c wait } monitor",
+    "(unclosed",
+};
+
+enum { TEXTS = sizeof texts / sizeof *texts, BYTES = 65536, ENTRIES = 65536 };
+
+static tallowmarch_settings small(uint32_t quantum) {
+    tallowmarch_settings settings = TALLOWMARCH_SETTINGS;
+    settings.space = 4096;
+    settings.quantum = quantum;
+    settings.steps = 20000;
+    settings.output = BYTES;
+    return settings;
+}
+
+/* What a run came to. */
+struct made {
+    uint8_t printed[BYTES];
+    tallowmarch_entry entries[ENTRIES];
+    tallowmarch_counts counts;
+    uint32_t code;
+};
+
+static uint32_t seed = 1;
+
+static uint32_t below(uint32_t limit) {
+    seed = seed * 1664525 + 1013904223;
+    return (seed >> 8) % limit;
+}
+
+/* Starts a run of bytes that are freed before its first step. */
+static uint32_t start_bytes(tallowmarch_standing *run, const char *text, size_t length, tallowmarch_settings settings) {
+    char *copy = malloc(length + 1);
+    memcpy(copy, text, length);
+    uint32_t code = tallowmarch_start((const uint8_t *)copy, length, TALLOWMARCH_NUMBERS(settings), run);
+    free(copy);
+    return code;
+}
+
+static uint32_t start(tallowmarch_standing *run, const char *text, tallowmarch_settings settings) { return start_bytes(run, text, strlen(text), settings); }
+
+/* Slices until so many steps were made or the run is over; what is printed is taken piece by piece, through a small room. */
+static void sliced(struct made *made, const char *text, size_t length, tallowmarch_settings settings, uint32_t limit) {
+    tallowmarch_standing run = TALLOWMARCH_STANDING;
+    uint8_t piece[7];
+    size_t taken = 0;
+    memset(made, 0x5a, sizeof *made);
+    count(start_bytes(&run, text, length, settings) == 0, "a run that starts");
+    uint32_t rest = settings.steps;
+    do {
+        uint32_t steps = 1 + below(limit);
+        if (steps > rest) steps = rest;
+        rest -= steps;
+        made->code = tallowmarch_advance(&run, steps);
+        for (size_t all = tallowmarch_printed(&run, taken, piece, sizeof piece); taken < all; all = tallowmarch_printed(&run, taken, piece, sizeof piece)) {
+            size_t got = all - taken < sizeof piece ? all - taken : sizeof piece;
+            memcpy(made->printed + taken, piece, got);
+            taken += got;
+        }
+    } while (made->code == TALLOWMARCH_STEPS_OUT && rest);
+    tallowmarch_entries(&run, 0, made->entries, ENTRIES);
+    count(tallowmarch_counts_of(&run, TALLOWMARCH_NUMBERS(made->counts)) == 0 && made->counts.bytes == taken, "the counts of a run that stands");
+    tallowmarch_close(&run);
+}
+
+static const uint32_t limits[] = {1, 2, 13, 100, 5000}, quanta[] = {1, 7, 100};
+
+/* The run that one call makes, and slices of random sizes: they print the same, under the same schedule, to the same end. */
+static void compare(const char *name, const char *text, size_t length, uint32_t quantum, size_t first, size_t sizes) {
+    static struct made whole, made;
+    tallowmarch_settings settings = small(quantum);
+    memset(&whole, 0x5a, sizeof whole);
+    whole.code = tallowmarch_run((const uint8_t *)text, length, TALLOWMARCH_NUMBERS(settings), whole.printed, BYTES, whole.entries, ENTRIES,
+                                 TALLOWMARCH_NUMBERS(whole.counts));
+    for (size_t size = first; size < first + sizes; size++) {
+        sliced(&made, text, length, settings, limits[size]);
+        int same = !memcmp(&made, &whole, sizeof whole);
+        if (!same) printf("%s, quantum %u, slices up to %u: code %u for %u, bytes %zu for %zu, entries %zu for %zu, flips %zu for %zu\n", name, quantum,
+                          limits[size], made.code, whole.code, (size_t)made.counts.bytes, (size_t)whole.counts.bytes, (size_t)made.counts.entries,
+                          (size_t)whole.counts.entries, (size_t)made.counts.flips, (size_t)whole.counts.flips);
+        count(same, "slices come to another run than one call");
+    }
+}
+
+static void slices(void) {
+    for (size_t which = 0; which < TEXTS; which++)
+        for (size_t turn = 0; turn < 3; turn++) compare(texts[which], texts[which], strlen(texts[which]), quanta[turn], 0, 5);
+}
+
+/* The programs of these files, each by a quantum and slices of a size that are chosen at random. */
+static int of_files(int count_of_files, char **names) {
+    static char text[1 << 20];
+    for (int at = 0; at < count_of_files; at++) {
+        FILE *file = fopen(names[at], "rb");
+        if (!file) return 2;
+        size_t length = fread(text, 1, sizeof text, file);
+        fclose(file);
+        uint32_t quantum = quanta[below(3)];
+        compare(names[at], text, length, quantum, below(5), 1);
+    }
+    count(standing == 0, "a block stands at the end");
+    printf("%d passed, %d failed\n", passed, failed);
+    return failed > 0;
+}
+
+/* An empty handle, one that was closed, one that is started twice, numbers out of range, and rooms that are small or asked for behind the end. */
+static void codes(void) {
+    tallowmarch_standing run = TALLOWMARCH_STANDING;
+    tallowmarch_settings settings = small(10), wrong = settings;
+    tallowmarch_counts counts, before;
+    uint8_t room[4] = {9, 9, 9, 9};
+    tallowmarch_entry entry;
+    memset(&counts, 0x5a, sizeof counts);
+    before = counts;
+    count(tallowmarch_advance(&run, 1) == TALLOWMARCH_CLOSED, "an empty handle that is advanced");
+    count(tallowmarch_advance(&run, 0) == TALLOWMARCH_CLOSED, "an empty handle that is advanced by nothing");
+    count(tallowmarch_printed(&run, 0, room, 4) == 0 && room[0] == 9, "what an empty handle printed");
+    count(tallowmarch_entries(&run, 0, &entry, 1) == 0, "the entries of an empty handle");
+    count(tallowmarch_counts_of(&run, TALLOWMARCH_NUMBERS(counts)) == TALLOWMARCH_CLOSED && !memcmp(&counts, &before, sizeof counts), "the counts of an empty handle");
+    tallowmarch_close(&run);
+    wrong.space = 4095;
+    count(start(&run, "1 =", wrong) == TALLOWMARCH_OUT_OF_RANGE && run.full == 0, "a space out of its range");
+    wrong = settings;
+    wrong.plain = 1;
+    count(start(&run, "1 =", wrong) == TALLOWMARCH_OUT_OF_RANGE && run.full == 0, "a run that stands in memory that grows");
+    count(start(&run, "1 = 2 = 3 =", settings) == 0, "a handle that is started");
+    count(start(&run, "4 =", settings) == TALLOWMARCH_OPEN, "a handle that is started twice");
+    count(tallowmarch_advance(&run, 0) == TALLOWMARCH_OUT_OF_RANGE, "a slice of no step");
+    count(tallowmarch_counts_of(&run, TALLOWMARCH_NUMBERS(counts)) == 0 && counts.steps == 0 && counts.bytes == 0 && counts.entries == 0, "the counts before the first step");
+    count(tallowmarch_advance(&run, 2) == TALLOWMARCH_STEPS_OUT, "a first slice");
+    count(tallowmarch_counts_of(&run, TALLOWMARCH_NUMBERS(counts)) == 0 && counts.steps == 2 && counts.bytes == 2 && counts.entries == 1, "the counts behind it");
+    count(tallowmarch_advance(&run, UINT32_MAX) == TALLOWMARCH_FINISHED, "a last slice");
+    count(tallowmarch_advance(&run, UINT32_MAX) == TALLOWMARCH_FINISHED, "a slice behind the end");
+    count(tallowmarch_printed(&run, 2, room, 3) == 6 && !memcmp(room, "2\n3\11", 4), "a room that is too small");
+    count(tallowmarch_printed(&run, 6, room, 4) == 6 && !memcmp(room, "2\n3\11", 4), "what is behind the end");
+    count(tallowmarch_printed(&run, SIZE_MAX, room, 4) == 6 && !memcmp(room, "2\n3\11", 4), "what is far behind the end");
+    count(tallowmarch_entries(&run, 0, &entry, 1) == 1 && entry.context == 1 && entry.steps == 7, "the entry of one context");
+    count(tallowmarch_entries(&run, 7, &entry, 1) == 1, "entries behind the end");
+    tallowmarch_close(&run);
+    tallowmarch_close(&run);
+    count(tallowmarch_advance(&run, 1) == TALLOWMARCH_CLOSED && run.full == 0, "a handle that was closed");
+    count(start(&run, "5 =", settings) == 0 && tallowmarch_advance(&run, 9) == TALLOWMARCH_FINISHED, "a handle that is started again");
+    tallowmarch_close(&run);
+    count(standing == 0, "a block stands behind close");
+}
+
+static int stop;
+
+static void *stopping(void *of) {
+    (void)of;
+    __atomic_store_n(&stop, 1, __ATOMIC_RELAXED);
+    return NULL;
+}
+
+/* Slices until their steps are made, until the run is over, and until another thread stops them. */
+static void stops(void) {
+    tallowmarch_standing run = TALLOWMARCH_STANDING;
+    tallowmarch_counts counts;
+    pthread_t other;
+    count(tallowmarch_advance_until(&run, 5, 5, &stop) == TALLOWMARCH_CLOSED, "an empty handle that is advanced in slices");
+    count(start(&run, "{ } loop", small(10)) == 0, "a run to stop");
+    count(tallowmarch_advance_until(&run, 1000, 300, &stop) == TALLOWMARCH_STEPS_OUT, "slices until their steps are made");
+    count(tallowmarch_counts_of(&run, TALLOWMARCH_NUMBERS(counts)) == 0 && counts.steps == 1000, "as many steps as were asked for");
+    count(tallowmarch_advance_until(&run, 0, 5, &stop) == TALLOWMARCH_OUT_OF_RANGE && tallowmarch_advance_until(&run, 5, 0, &stop) == TALLOWMARCH_OUT_OF_RANGE,
+          "slices of no step");
+    if (pthread_create(&other, NULL, stopping, NULL)) exit(2);
+    count(tallowmarch_advance_until(&run, 4000000000u, 1000, &stop) == TALLOWMARCH_STEPS_OUT && stop, "slices that another thread stops");
+    pthread_join(other, NULL);
+    tallowmarch_counts_of(&run, TALLOWMARCH_NUMBERS(counts));
+    uint64_t before = counts.steps;
+    count(tallowmarch_advance_until(&run, 500, 100, &stop) == TALLOWMARCH_STEPS_OUT && tallowmarch_counts_of(&run, TALLOWMARCH_NUMBERS(counts)) == 0 &&
+              counts.steps == before + 100, "one slice of a run that is to stop");
+    tallowmarch_close(&run);
+    stop = 0;
+    count(start(&run, "1 =", small(10)) == 0 && tallowmarch_advance_until(&run, 1000, 2, &stop) == TALLOWMARCH_FINISHED, "slices until the run is over");
+    tallowmarch_close(&run);
+}
+
+/* Each allocation refused in turn: no block is lost, what was printed is a beginning, and where memory is to be had again the run goes on. */
+static void refusals(void) {
+    static struct made whole;
+    tallowmarch_settings settings = small(10);
+    const char *text = texts[1];
+    whole.code = tallowmarch_run((const uint8_t *)text, strlen(text), TALLOWMARCH_NUMBERS(settings), whole.printed, BYTES, whole.entries, ENTRIES,
+                                 TALLOWMARCH_NUMBERS(whole.counts));
+    long lost = 0, differ = 0, unstarted = 0, few = 0;
+    for (long at = 0; at < 100000; at++) {
+        tallowmarch_standing run = TALLOWMARCH_STANDING;
+        static uint8_t printed[BYTES];
+        left = at;
+        asked = 0;
+        uint32_t code = start(&run, text, settings);
+        if (code) {
+            unstarted++;
+            differ += code != TALLOWMARCH_NO_ROOM || run.full != 0;
+        } else {
+            do code = tallowmarch_advance(&run, 97);
+            while (code == TALLOWMARCH_STEPS_OUT);
+            if (code == TALLOWMARCH_MEMORY) {
+                few++;
+                left = 1L << 40;
+                do code = tallowmarch_advance(&run, 97);
+                while (code == TALLOWMARCH_STEPS_OUT);
+            }
+            size_t bytes = tallowmarch_printed(&run, 0, printed, BYTES);
+            differ += code != whole.code || bytes != whole.counts.bytes || memcmp(printed, whole.printed, bytes);
+        }
+        tallowmarch_close(&run);
+        lost += standing != 0;
+        if (asked <= at) break;
+    }
+    left = 1L << 40;
+    count(unstarted > 5 && few > 0, "allocations that are refused");
+    count(lost == 0, "a block was lost");
+    count(differ == 0, "a run that memory was refused to");
+}
+
+static tallowmarch_standing handed[4];
+static pthread_mutex_t locks[4] = {PTHREAD_MUTEX_INITIALIZER, PTHREAD_MUTEX_INITIALIZER, PTHREAD_MUTEX_INITIALIZER, PTHREAD_MUTEX_INITIALIZER};
+
+static void *passing(void *of) {
+    (void)of;
+    for (int at = 0; at < 400; at++) {
+        pthread_mutex_lock(&locks[at % 4]);
+        tallowmarch_advance(&handed[at % 4], 37);
+        pthread_mutex_unlock(&locks[at % 4]);
+    }
+    return NULL;
+}
+
+/* Four runs that are handed among eight threads. */
+static void threads(void) {
+    static struct made whole, made;
+    tallowmarch_settings settings = small(10);
+    pthread_t started[8];
+    sliced(&whole, texts[1], strlen(texts[1]), settings, 5000);
+    for (int at = 0; at < 4; at++) count(start(&handed[at], texts[1], settings) == 0, "a run for threads");
+    for (int at = 0; at < 8; at++)
+        if (pthread_create(&started[at], NULL, passing, NULL)) exit(2);
+    for (int at = 0; at < 8; at++) pthread_join(started[at], NULL);
+    for (int at = 0; at < 4; at++) {
+        memset(&made, 0x5a, sizeof made);
+        made.code = tallowmarch_advance(&handed[at], 1);
+        tallowmarch_printed(&handed[at], 0, made.printed, BYTES);
+        tallowmarch_entries(&handed[at], 0, made.entries, ENTRIES);
+        tallowmarch_counts_of(&handed[at], TALLOWMARCH_NUMBERS(made.counts));
+        tallowmarch_close(&handed[at]);
+        count(!memcmp(&made, &whole, sizeof whole), "a run that was handed among threads");
+    }
+}
+
+int main(int words, char **word) {
+    if (words > 2) {
+        seed = (uint32_t)atoi(word[1]);
+        return of_files(words - 2, word + 2);
+    }
+    codes();
+    stops();
+    slices();
+    refusals();
+    threads();
+    count(standing == 0, "a block stands at the end");
+    printf("%d passed, %d failed\n", passed, failed);
+    return failed > 0;
+}

@@ -1,0 +1,3 @@
+pub mod HandleValues
+pub mod Starts
+pub mod Values
