@@ -10,7 +10,7 @@
 //! - Recursion goes by the braces that may still be opened (`NESTING_LIMIT`), so no text can use up
 //!   the stack.
 //! - A number or an executable name has a path of its own that takes no memory (`next_word`), and
-//!   `first_number` scans without keeping a token, since `cvi` must not want memory.
+//!   `first_number` and `pass_next` scan without keeping a token, since `cvi` must not want memory.
 #![tactic(auto)]
 
 mod classes;
@@ -18,6 +18,7 @@ mod firsts;
 mod hexadecimal;
 mod law;
 mod numbers;
+mod passes;
 mod procedures;
 mod scanner;
 mod simple;
@@ -28,5 +29,7 @@ mod words;
 
 pub use firsts::{NumberFault, first_number};
 pub use law::scanner_is_grammar;
+pub use passes::{Passed, TokenClass, pass_next};
 pub use scanner::{next_token, next_word};
+pub use spans::blank_end;
 pub use tokens::{NAME_LIMIT, NESTING_LIMIT, SEQUENCE_LIMIT, ScanFault, Span, Token, TokenKind};

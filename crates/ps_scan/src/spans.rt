@@ -26,9 +26,9 @@ fn comment_end(bytes: &[u8], at: usize) -> usize
     here
 }
 
-/// The place behind white space and comments.
+/// The place behind white space and comments, from a place on.
 #[inline(always)]
-pub(crate) fn blank_end(bytes: &[u8], at: usize) -> usize
+pub fn blank_end(bytes: &[u8], at: usize) -> usize
     requires { at ≤ length bytes.now }
     ensures low { at ≤ result }
     ensures high { result ≤ length bytes.now }

@@ -2,8 +2,9 @@
 use Rattle.std.proofs.Common.{◌≡◌, ◌∙◌, ◌<◌, length, Ok, sym, ap, to_z, of_z, w32, arith}
 use Rattle.std.proofs.lemmas.Int.{ints}
 use Rattle.ps_language.specs.Token.{syntax_fault, limit_fault}
-use Rattle.ps_scan.specs.Passed.{number_of, number_or}
-use Rattle.ps_scan.proofs.ScannerForms.{scan_none, scan_token, scan_fault}
+use Rattle.ps_scan.specs.Passed.{number_of, number_or, class_number}
+use Rattle.ps_scan.proofs.Passing.{number_passed}
+use Rattle.ps_scan.proofs.ScannerForms.{scan_none, scan_fault}
 use Rattle.ps_scan.proofs.firsts.first_number.Goals as goal
 
 pub returns-then-here-bytes : goal.returns-then-here-bytes
@@ -11,27 +12,34 @@ returns-then-here-bytes c =
     sym (ap number_of (scan_none c.args.bytes.now 0 c.blank_end-here.result c.blank_end-here.ensures.rest
     c.if-here-bytes.true))
 
-pub returns-in-Some : goal.returns-in-Some
-returns-in-Some c =
-    let xs = c.args.bytes.now in
-    let here = c.blank_end-here.result in
-    let inside : here < length xs = omega (arith, c.if-here-bytes.false) in
+pub returns-in-Number : goal.returns-in-Number
+returns-in-Number c =
     let passed = c.in-Ok.ensures in
-    let same : to_z w32 (of_z w32 c.in-Some.number) ≡ c.in-Some.number = omega (arith, ints) in
-    ap Ok same
-    ∙ sym (ap number_of
-    (scan_token xs 0 here passed.0 c.in-Ok.token.end c.blank_end-here.ensures.rest inside passed.1 passed.4)
-    ∙ ap number_or (passed.2 ∙ c.in-Some.is))
+    let same : to_z w32 (of_z w32 c.in-Number.number) ≡ c.in-Number.number = omega (arith, ints) in
+    ap Ok same ∙ sym (number_passed c.args.bytes.now c.blank_end-here.result c.in-Ok.token.end passed.0
+    c.blank_end-here.ensures.rest (omega (arith, c.if-here-bytes.false)) passed.1 passed.4
+    ∙ ap (λ class. number_or (class_number class)) (passed.2 ∙ c.in-Number.is))
 
-pub returns-in-None : goal.returns-in-None
-returns-in-None c =
-    let xs = c.args.bytes.now in
-    let here = c.blank_end-here.result in
-    let inside : here < length xs = omega (arith, c.if-here-bytes.false) in
+pub returns-in-Name : goal.returns-in-Name
+returns-in-Name c =
     let passed = c.in-Ok.ensures in
-    sym (ap number_of (scan_token xs 0 here passed.0 c.in-Ok.token.end c.blank_end-here.ensures.rest inside passed.1
-    passed.4)
-    ∙ ap number_or (passed.2 ∙ c.in-None.is))
+    sym (number_passed c.args.bytes.now c.blank_end-here.result c.in-Ok.token.end passed.0
+    c.blank_end-here.ensures.rest (omega (arith, c.if-here-bytes.false)) passed.1 passed.4
+    ∙ ap (λ class. number_or (class_number class)) (passed.2 ∙ c.in-Name.is))
+
+pub returns-in-Text : goal.returns-in-Text
+returns-in-Text c =
+    let passed = c.in-Ok.ensures in
+    sym (number_passed c.args.bytes.now c.blank_end-here.result c.in-Ok.token.end passed.0
+    c.blank_end-here.ensures.rest (omega (arith, c.if-here-bytes.false)) passed.1 passed.4
+    ∙ ap (λ class. number_or (class_number class)) (passed.2 ∙ c.in-Text.is))
+
+pub returns-in-Procedure : goal.returns-in-Procedure
+returns-in-Procedure c =
+    let passed = c.in-Ok.ensures in
+    sym (number_passed c.args.bytes.now c.blank_end-here.result c.in-Ok.token.end passed.0
+    c.blank_end-here.ensures.rest (omega (arith, c.if-here-bytes.false)) passed.1 passed.4
+    ∙ ap (λ class. number_or (class_number class)) (passed.2 ∙ c.in-Procedure.is))
 
 pub returns-in-Err-Syntax : goal.returns-in-Err-Syntax
 returns-in-Err-Syntax c =

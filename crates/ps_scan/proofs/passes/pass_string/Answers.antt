@@ -1,7 +1,7 @@
--- A string is no number.
+-- A string is passed over.
 use Rattle.std.proofs.Common.{refl, arith}
 use Rattle.ps_language.specs.Token.{string_token}
-use Rattle.ps_scan.proofs.firsts.pass_string.Goals as goal
+use Rattle.ps_scan.proofs.passes.pass_string.Goals as goal
 
 pub returns-in-Ok : goal.returns-in-Ok
 returns-in-Ok c = λ text at start reading behind. rw c.in-Ok.is λ sized. (

@@ -3,7 +3,7 @@ use Rattle.std.proofs.Common.{◌∙◌, refl, ap, ◌+◌, ◌≡◌, ◌∷◌
 use Rattle.ps_language.specs.Token.{executable_name_token}
 use Rattle.ps_language.specs.Reading.{token_then}
 use Rattle.ps_scan.proofs.HexForms.{angle_angle}
-use Rattle.ps_scan.proofs.firsts.pass_angle.Goals as goal
+use Rattle.ps_scan.proofs.passes.pass_angle.Goals as goal
 
 pub returns-then-bytes-start-eq60 : goal.returns-then-bytes-start-eq60
 returns-then-bytes-start-eq60 c =

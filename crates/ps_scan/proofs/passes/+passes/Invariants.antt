@@ -1,7 +1,7 @@
 use Rattle.std.proofs.Common.{◌≡◌, ◌+◌, ◌-◌, ◌*◌, ◌≤◌, List, length}
 use Rattle.ps_language.specs.Token.{Token}
 use Rattle.ps_scan.proofs.ProcedureForms.{with_all, elements_at}
-use Rattle.ps_scan.proofs.firsts.+passes.Given as goal
+use Rattle.ps_scan.proofs.passes.+passes.Given as goal
 
 abbrev pub decreases-pass_procedure : goal.decreases-pass_procedure
 decreases-pass_procedure l = 2 * l.room + 1

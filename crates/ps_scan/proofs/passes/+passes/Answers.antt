@@ -7,7 +7,7 @@ use Rattle.ps_scan.proofs.ProcedureForms.{with_all, elements_at, all_more, missi
 use Rattle.ps_scan.proofs.ProcedureForms.{faulty_answer, enclosed_fault, enclosed_short, enclosed_long, nothing_left}
 use Rattle.ps_scan.proofs.ProcedureForms.{brace_at, deep_brace_at, no_brace_at}
 use Rattle.ps_scan.proofs.Passing.{same_passed}
-use Rattle.ps_scan.proofs.firsts.+passes.Goals as goal
+use Rattle.ps_scan.proofs.passes.+passes.Goals as goal
 
 pub pass_procedure-returns-then-here-bytes : goal.pass_procedure-returns-then-here-bytes
 pass_procedure-returns-then-here-bytes t c =

@@ -3,7 +3,7 @@ use Rattle.std.proofs.Common.{◌+◌, arith}
 use Rattle.ps_scan.specs.Shown.{token_of}
 use Rattle.ps_scan.proofs.ReadingForms.{string_at, angle_at}
 use Rattle.ps_scan.proofs.Passing.{same_passed}
-use Rattle.ps_scan.proofs.firsts.pass_simple.Goals as goal
+use Rattle.ps_scan.proofs.passes.pass_simple.Goals as goal
 
 pub returns-then-first-eq40 : goal.returns-then-first-eq40
 returns-then-first-eq40 c =
@@ -22,7 +22,7 @@ returns-in-Ok c =
     let is = c.in-Ok.ensures in rw c.passing.ensures.end (
       token_of xs c.in-Ok.token.kind,
       is.0,
-      c.passing.ensures.number xs,
+      c.passing.ensures.class xs,
       is.1,
       is.2,
     )
