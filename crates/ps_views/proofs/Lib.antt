@@ -1,0 +1,4 @@
+mod Examples
+pub mod Appended
+pub mod Callers
+pub mod Windows
