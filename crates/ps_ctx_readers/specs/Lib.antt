@@ -1,0 +1,3 @@
+pub mod Errors
+pub mod Frames
+pub mod Names

@@ -1,0 +1,17 @@
+//! What a context of a world is doing, for whoever looks at a run: its frames, the name of a
+//! procedure, and its last error (PLRM2, 3.4, 3.7, 3.10).
+//!
+//! Why so:
+//! - A reader changes nothing, and is told what the definitions have of every world that the
+//!   contexts are at. So what is shown of a run is the same wherever its objects stand.
+//! - A frame is seen by birth numbers and places, without addresses and values. So it may be kept
+//!   beyond the step, and says the same in every memory.
+//! - The name of a procedure is looked for where it is wanted, by a walk through the dictionaries
+//!   that the context has: nothing else knows under which key a value stands.
+#![tactic(auto)]
+
+pub mod births;
+pub mod contexts;
+pub mod errors;
+pub mod frames;
+pub mod names;
