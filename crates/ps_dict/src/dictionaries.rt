@@ -1,6 +1,6 @@
 //! Dictionaries that are read (PLRM2, 3.3.9 and 8: length, maxlength, get, known, forall).
 
-ghost use Rattle.std.specs.Prelude.{◌≡◌, ◌≢◌, ℕ, ◌+◌, ◌<◌, ◌≤◌, ◌^◌, true, List, length, Option, Some, None, IfSome, option_map, slice_get};
+ghost use Rattle.std.specs.Prelude.{◌≡◌, ◌≢◌, ℕ, ◌+◌, ◌%◌, ◌<◌, ◌≤◌, ◌^◌, true, List, length, Option, Some, None, IfSome, option_map, slice_get};
 ghost use Rattle.std.specs.List.{AllPairs};
 ghost use Rattle.ps_language.specs.Value.{Store};
 ghost use Rattle.ps_language.specs.Access.{dictionary_at};
@@ -8,13 +8,14 @@ ghost use Rattle.ps_language.specs.Dictionaries.{find};
 ghost use Rattle.ps_word.specs.Format as format;
 ghost use Rattle.ps_word.specs.Readers as readers;
 ghost use Rattle.ps_mem.specs.Heap.{birth_at, fields_at};
+ghost use Rattle.ps_mem.specs.Index.{hash_of};
 ghost use Rattle.ps_mem.specs.References.{StandsAs};
 ghost use Rattle.ps_mem.specs.Meaning.{value_of};
 ghost use Rattle.ps_mem.specs.Shows.{IsValue, IsSound, IsWithin, Shows, pair_of};
 ghost use Rattle.ps_dict.specs.Places.{natural_in, count_at, capacity_at, access_at, body_at, pairs_at, place_of, first_place};
 ghost use Rattle.ps_dict.specs.Probes.{going_round, same_at, start_at, IsPosition, StillAhead, Tells};
 
-use crate::index::{place_behind, sought_place};
+use crate::index::{place_behind, remainder, sought_place};
 use crate::keys::are_alike;
 use ps_language::access::Access;
 use ps_language::kinds::Kind;
@@ -182,12 +183,80 @@ fn near_position<M: Memory>(memory: &mut M, address: u32, capacity: u32, key: Wo
     ensures words { result ≡ place_of (pairs_at (M.heap memory.old) address) key }
 {
     match sought_place(memory, key, capacity) {
-        Some(start) => match look_at(memory, address, capacity, start, key) {
-            Look::Here(position) => Some(position),
-            Look::Other => indexed_position(memory, address, capacity, start, key),
-            Look::Free => None,
-        },
+        Some(start) => position_from(memory, address, capacity, start, key),
         None => None,
+    }
+}
+
+/// The same of a key that is first looked for at this place.
+#[inline(always)]
+fn position_from<M: Memory>(
+    memory: &mut M,
+    address: u32,
+    capacity: u32,
+    start: u32,
+    key: Word,
+) -> Option<u32>
+    requires capacity { capacity ≡ capacity_at (M.heap memory.old) address }
+    requires some { 0 < capacity }
+    requires start { start ≡ hash_of (birth_at (M.heap memory.old)) key % capacity }
+    requires below { start < capacity }
+    requires sound { IsSound (M.heap memory.old) }
+    requires known { StandsAs (M.heap memory.old) Kind.Dictionary address 4 }
+    requires held { IsValue (M.heap memory.old) key }
+    requires other { readers.as_text (format.content_in key.0) ≡ None }
+    ensures heap { M.heap memory.new ≡ M.heap memory.old }
+    ensures grants { M.grants memory.new ≡ M.grants memory.old }
+    ensures within { IfSome result (λ place. place < count_at (M.heap memory.old) address) }
+    ensures words { result ≡ place_of (pairs_at (M.heap memory.old) address) key }
+{
+    match look_at(memory, address, capacity, start, key) {
+        Look::Here(position) => Some(position),
+        Look::Other => indexed_position(memory, address, capacity, start, key),
+        Look::Free => None,
+    }
+}
+
+/// The same of a name, whose hash number is its own.
+#[inline(always)]
+fn name_position<M: Memory>(
+    memory: &mut M,
+    address: u32,
+    key: Word,
+    name: u16,
+) -> Option<u32>
+    requires sound { IsSound (M.heap memory.old) }
+    requires known { StandsAs (M.heap memory.old) Kind.Dictionary address 4 }
+    requires held { IsValue (M.heap memory.old) key }
+    requires name { Some name ≡ readers.as_name (format.content_in key.0) }
+    ensures heap { M.heap memory.new ≡ M.heap memory.old }
+    ensures grants { M.grants memory.new ≡ M.grants memory.old }
+    ensures within { IfSome result (λ place. place < count_at (M.heap memory.old) address) }
+    ensures words { result ≡ place_of (pairs_at (M.heap memory.old) address) key }
+{
+    let capacity = capacity(memory, address);
+    if capacity == 0 {
+        return None;
+    }
+    let start = remainder(name as u32, capacity);
+    position_from(memory, address, capacity, start, key)
+}
+
+/// The same as `position`, for a key that is mostly a name: no call tells then where it is looked
+/// for first.
+#[inline(always)]
+pub(crate) fn put_position<M: Memory>(memory: &mut M, address: u32, key: Word) -> Option<u32>
+    requires sound { IsSound (M.heap memory.old) }
+    requires known { StandsAs (M.heap memory.old) Kind.Dictionary address 4 }
+    requires held { IsValue (M.heap memory.old) key }
+    ensures heap { M.heap memory.new ≡ M.heap memory.old }
+    ensures grants { M.grants memory.new ≡ M.grants memory.old }
+    ensures within { IfSome result (λ place. place < count_at (M.heap memory.old) address) }
+    ensures words { result ≡ place_of (pairs_at (M.heap memory.old) address) key }
+{
+    match key.as_name() {
+        Some(name) => name_position(memory, address, key, name),
+        None => position(memory, address, key),
     }
 }
 

@@ -47,7 +47,7 @@ pub fn hash_number<M: Memory>(memory: &mut M, key: Word) -> u64
 /// The remainder of a number by a capacity. Most numbers of names are below it or not far above, or
 /// are looked for in `userdict`, which has 32 first: a division takes several times as long.
 #[inline(always)]
-fn remainder(number: u32, capacity: u32) -> u32
+pub(crate) fn remainder(number: u32, capacity: u32) -> u32
     requires some { 0 < capacity }
     ensures answer { result ≡ number % capacity }
     ensures below { result < capacity }

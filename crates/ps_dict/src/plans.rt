@@ -14,7 +14,7 @@ ghost use Rattle.ps_mem.specs.Shows.{IsValue, IsSound, IsWithin, Shows};
 ghost use Rattle.ps_dict.specs.Puts as puts;
 ghost use Rattle.ps_dict.specs.Puts.{planned, plan_at};
 
-use crate::dictionaries::{capacity, length, position};
+use crate::dictionaries::{capacity, length, put_position};
 use ps_language::kinds::Kind;
 use ps_mem::Memory;
 use ps_word::words::Word;
@@ -95,7 +95,7 @@ pub fn plan_put<M: Memory>(memory: &mut M, address: u32, key: Word) -> PutPlan
         (put_pair (dictionary_at s (birth_at (M.heap memory.old) address)).pairs
         (value_of (birth_at (M.heap memory.old)) names key, value)) ≡ None) }
 {
-    let place = position(memory, address, key);
+    let place = put_position(memory, address, key);
     let count = length(memory, address);
     let capacity = capacity(memory, address);
     plan_of(place, count, capacity)

@@ -152,7 +152,7 @@ impl Cells {
     }
 
     /// Whether all hold behind the store of so many words: these go elsewhere, or replace a value.
-    #[inline(never)]
+    #[inline(always)]
     fn hold(&self, address: u32, place: u32, count: usize) -> bool
         ensures { result ≡ true → Leaves self.now.pair address place count }
     {

@@ -32,6 +32,7 @@ use ps_word::words::Word;
 /// Raises `stackunderflow`, `typecheck` of a null, `invalidaccess` where the key may not be read or
 /// the dictionary not written, `limitcheck` of a name and where the pairs would be too many, and
 /// `VMerror` in a refused step. Not made for want of memory for a name, of records or of room.
+#[inline(always)]
 pub fn def<M: Memory>(
     context: &mut Context,
     runtime: &mut Runtime<M>,
@@ -65,6 +66,22 @@ pub fn def<M: Memory>(
         operands: 2,
     };
     put_entry(context, runtime, attempt, entry)
+}
+
+/// The same by a call.
+#[inline(never)]
+pub fn def_apart<M: Memory>(
+    context: &mut Context,
+    runtime: &mut Runtime<M>,
+    attempt: Attempt,
+) -> Result<(), Break>
+    requires good { IsGood (lent_of M.heap M.grants context.old runtime.old) }
+    ensures acts { Acts def_asks (looking_row rows.def_row) attempt result
+        (lent_of M.heap M.grants context.old runtime.old)
+        (lent_of M.heap M.grants context.new runtime.new) }
+    ensures frames { context.new.frames ≡ context.old.frames }
+{
+    def(context, runtime, attempt)
 }
 
 /// `D k x put` into a dictionary, given by its word and its address.

@@ -123,6 +123,45 @@ fn is_refused(attempt: Attempt, plan: PutPlan) -> bool
     attempt.refused && plan.words() > 0
 }
 
+/// Puts a pair whose key is new, as it was planned. Raises `VMerror` in a refused step that would
+/// make a new body. Not made as `put_planned`. It is a call, so that the replacing of a value makes
+/// no room for what this needs.
+#[inline(never)]
+fn put_new<M: Memory>(
+    context: &mut Context,
+    runtime: &mut Runtime<M>,
+    attempt: Attempt,
+    plan: PutPlan,
+    entry: Entry,
+) -> Result<(), Break>
+    requires good { IsGood (lent_of M.heap M.grants context.old runtime.old) }
+    requires plan { plan ≡ plan_at (M.heap runtime.old.memory) entry.address entry.key }
+    requires possible { plan ≢ PutPlan.Full }
+    requires limit { (capacity : ℕ) → plan ≡ PutPlan.Grow capacity → capacity ≤ capacity_limit }
+    requires known { StandsAs (M.heap runtime.old.memory) Kind.Dictionary entry.address 4 }
+    requires key { IsValue (M.heap runtime.old.memory) entry.key }
+    requires value { IsValue (M.heap runtime.old.memory) entry.value }
+    requires operands { entry.operands ≤ length context.old.operands }
+    ensures acts { ((store : Store) → IsShown
+        (lent_of M.heap M.grants context.old runtime.old) store
+        → IsWithin (birth_at (M.heap runtime.old.memory)) runtime.old.shared.names store entry.key
+        × IsWithin (birth_at (M.heap runtime.old.memory)) runtime.old.shared.names store
+        entry.value)
+        → Acts (putting_asks (birth_at (M.heap runtime.old.memory)) entry.address entry.key)
+        (putting (birth_at (M.heap runtime.old.memory)) entry.address entry.key entry.value
+        entry.operands)
+        attempt result
+        (lent_of M.heap M.grants context.old runtime.old)
+        (lent_of M.heap M.grants context.new runtime.new) }
+    ensures frames { context.new.frames ≡ context.old.frames }
+{
+    let slot = attempt.slot;
+    if is_refused(attempt, plan) {
+        return Err(Break::Raises(ErrorName::VmError));
+    }
+    put_planned(context, runtime, slot, plan, entry)
+}
+
 /// Puts a pair. Raises `limitcheck` where the pairs would be too many, and `VMerror` in a refused
 /// step that would make a new body. Not made as `put_planned`.
 #[inline(always)]
@@ -152,13 +191,12 @@ fn put_met<M: Memory>(
 {
     let slot = attempt.slot;
     let plan = plan_put(&mut runtime.memory, entry.address, entry.key);
-    if matches!(plan, PutPlan::Full) {
-        return Err(Break::Raises(ErrorName::LimitCheck));
+    match plan {
+        PutPlan::Replace(_) => put_planned(context, runtime, slot, plan, entry),
+        PutPlan::Full => Err(Break::Raises(ErrorName::LimitCheck)),
+        // A copy, so that the entry itself needs no address.
+        _ => put_new(context, runtime, attempt, plan, Entry { ..entry }),
     }
-    if is_refused(attempt, plan) {
-        return Err(Break::Raises(ErrorName::VmError));
-    }
-    put_planned(context, runtime, slot, plan, entry)
 }
 
 /// Raises `VMerror` in a refused step that formed a name, once its note has its records; else the
@@ -311,6 +349,38 @@ fn put_word<M: Memory>(
     }
 }
 
+/// Puts a pair whose key is read first, by a call.
+///
+/// Raises and is not made as `put_key`.
+#[inline(never)]
+fn put_read<M: Memory>(
+    context: &mut Context,
+    runtime: &mut Runtime<M>,
+    attempt: Attempt,
+    entry: Entry,
+) -> Result<(), Break>
+    requires good { IsGood (lent_of M.heap M.grants context.old runtime.old) }
+    requires known { StandsAs (M.heap runtime.old.memory) Kind.Dictionary entry.address 4 }
+    requires key { IsValue (M.heap runtime.old.memory) entry.key }
+    requires value { IsValue (M.heap runtime.old.memory) entry.value }
+    requires operands { entry.operands ≤ length context.old.operands }
+    requires inside { (names : List (List ℕ)) (store : Store)
+        → AreWithin (M.heap runtime.old.memory) names store context.old.operands
+        → IsWithin (birth_at (M.heap runtime.old.memory)) names store entry.key
+        × IsWithin (birth_at (M.heap runtime.old.memory)) names store entry.value }
+    ensures acts { Acts (putting_key_asks (birth_at (M.heap runtime.old.memory)) entry.address
+        entry.key)
+        (putting_where_writable (birth_at (M.heap runtime.old.memory)) entry.address entry.key
+        entry.value
+        entry.operands) attempt result
+        (lent_of M.heap M.grants context.old runtime.old)
+        (lent_of M.heap M.grants context.new runtime.new) }
+    ensures frames { context.new.frames ≡ context.old.frames }
+{
+    let read = read_key(&mut runtime.memory, &runtime.shared.names, entry.key);
+    put_key(context, runtime, attempt, entry, &read)
+}
+
 /// Puts a pair whose key is read first: a string stands for the name of its characters.
 ///
 /// Raises and is not made as `put_key`.
@@ -341,9 +411,6 @@ pub(crate) fn put_entry<M: Memory>(
 {
     match string_of(entry.key) {
         None => put_word(context, runtime, attempt, entry),
-        Some(_) => {
-            let read = read_key(&mut runtime.memory, &runtime.shared.names, entry.key);
-            put_key(context, runtime, attempt, entry, &read)
-        }
+        Some(_) => put_read(context, runtime, attempt, Entry { ..entry }),
     }
 }

@@ -13,9 +13,11 @@ pub fn index_below(number: i32, count: u16) -> Option<u16>
     ensures index { result ≡ readers.index_below number count }
     ensures below { IfSome result (λ index. index < count) }
 {
-    match u16::try_from(number) {
-        Ok(index) if index < count => Some(index),
-        _ => None,
+    let index = number.cast_unsigned();
+    if index < count as u32 {
+        Some(index as u16)
+    } else {
+        None
     }
 }
 

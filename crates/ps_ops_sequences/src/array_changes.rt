@@ -27,6 +27,7 @@ use ps_word::values::Part;
 
 /// `A i x put`. Raises `stackunderflow`, `typecheck` where `A` is no array or `i` no integer,
 /// `invalidaccess` and `rangecheck`. Not made where the log of the slot takes no record.
+#[inline(always)]
 pub fn put<M: Memory>(operands: &mut Operands, memory: &mut M, slot: Slot) -> Result<(), Failure>
     requires ready { IsReady (M.heap memory.old) operands.old }
     ensures does { Changes rows.array_put_row rows.one_stored result slot (M.grants memory.old)

@@ -59,7 +59,7 @@ pub fn element<M: Memory>(memory: &mut M, part: Part, index: u16) -> Word
 }
 
 /// Puts a value at an index of a part of an array, with one record in a cycle.
-#[inline]
+#[inline(always)]
 pub fn set_element<M: Memory>(memory: &mut M, slot: Slot, part: Part, index: u16, word: Word)
     requires granted { 1 ≤ (M.grants memory.old).records slot }
     requires sound { IsSound (M.heap memory.old) }

@@ -16,11 +16,11 @@ pub plan_of-requires : goal.plan_of-requires
 plan_of-requires g c =
     let h = g.M.Memory.heap c.args.memory.now in
     let count : c.length-count.result ≡ count_at h c.args.address = c.length-count.ensures.words
-    ∙ ap (λ (k : Heap). count_at k c.args.address) c.position-place.ensures.heap in
+    ∙ ap (λ (k : Heap). count_at k c.args.address) c.put_position-place.ensures.heap in
     let capacity : c.capacity-capacity.result ≡ capacity_at h c.args.address =
     c.capacity-capacity.ensures.words
     ∙ ap (λ (k : Heap). capacity_at k c.args.address)
-    (c.length-count.ensures.heap ∙ c.position-place.ensures.heap) in
+    (c.length-count.ensures.heap ∙ c.put_position-place.ensures.heap) in
     let fits = count-fits h c.args.address c.requires.known c.requires.sound in
     omega (arith, count, capacity, fits)
 
@@ -29,13 +29,13 @@ unfolding plan_at
 returns-clause-words g c =
     let h = g.M.Memory.heap c.args.memory.now in
     let count : c.length-count.result ≡ count_at h c.args.address = c.length-count.ensures.words
-    ∙ ap (λ (k : Heap). count_at k c.args.address) c.position-place.ensures.heap in
+    ∙ ap (λ (k : Heap). count_at k c.args.address) c.put_position-place.ensures.heap in
     let capacity : c.capacity-capacity.result ≡ capacity_at h c.args.address =
     c.capacity-capacity.ensures.words
     ∙ ap (λ (k : Heap). capacity_at k c.args.address)
-    (c.length-count.ensures.heap ∙ c.position-place.ensures.heap) in
+    (c.length-count.ensures.heap ∙ c.put_position-place.ensures.heap) in
     c.plan_of.ensures.plan ∙ (ap (λ o. plan_from o c.length-count.result c.capacity-capacity.result)
-    c.position-place.ensures.words
+    c.put_position-place.ensures.words
     ∙ (ap (λ n. plan_from (place_of (pairs_at h c.args.address) c.args.key) n
     c.capacity-capacity.result) count
     ∙ ap (plan_from (place_of (pairs_at h c.args.address) c.args.key) (count_at h c.args.address))
