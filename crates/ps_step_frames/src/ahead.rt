@@ -1,4 +1,5 @@
-//! Turns of loops by operands and frames alone, where they raise no error (PLRM2, 3.4).
+//! Turns of loops, and procedures that wait, by operands and frames alone, where they raise no error
+//! (PLRM2, 3.4).
 
 ghost use Rattle.std.specs.Prelude.{◌≡◌, Some};
 ghost use Rattle.ps_ops_state.specs.Lent.{lent, IsGood};
@@ -10,13 +11,16 @@ ghost use Rattle.ps_step_frames.specs.Steps.{GoesAhead};
 use crate::frames::drop_top;
 use crate::places::operands_at;
 use ps_mem::Memory;
-use ps_ops_control::ahead::{Ahead, for_ahead, forall_ahead, loop_ahead, repeat_ahead};
+use ps_ops_control::ahead::{
+    Ahead, enter_ahead, for_ahead, forall_ahead, loop_ahead, repeat_ahead,
+};
 use ps_ops_control::frames::{ForLoop, ForallLoop, Frame};
 use ps_ops_state::lent::{Context, Shared};
 
 /// A turn of the loop that is the topmost frame, up to the frame of the procedure that it enters, or
-/// its end. Where an error is to be raised, or the procedure is empty, and by every other frame,
-/// nothing changes. The memory stays as it is.
+/// its end; or the procedure that waits there, as `exec` leaves it, is entered, up to its frame.
+/// Where an error is to be raised, or a loop's procedure is empty, and by every other frame, nothing
+/// changes. The memory stays as it is.
 #[inline(always)]
 pub fn turn_ahead<M: Memory>(
     top: Frame,
@@ -65,6 +69,16 @@ pub fn turn_ahead<M: Memory>(
                 forall_ahead(operands, frames, ForallLoop { over, at, body }, pushed)
             }
         },
+        Frame::Pending { word } => {
+            let Some(body) = word.as_enterable() else {
+                return Ahead::Left;
+            };
+            if frames.is_full() {
+                return Ahead::Left;
+            }
+            drop_top(frames);
+            enter_ahead(body)
+        }
         _ => Ahead::Left,
     }
 }

@@ -8,7 +8,8 @@
 //! - What is left of a procedure is pushed once, without the element that is done (`push_rest`),
 //!   and `treat_apart` treats the value by a call that isn't given the rest.
 //! - A turn of a loop goes ahead (`turn_ahead`): its frame is changed in place, and the frame of
-//!   its procedure isn't pushed.
+//!   its procedure isn't pushed. So does the step of a procedure that waits, as `exec` leaves it:
+//!   all else that waits goes the general way.
 #![tactic(auto)]
 
 pub mod ahead;

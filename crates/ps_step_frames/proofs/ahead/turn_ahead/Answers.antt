@@ -1,10 +1,14 @@
--- Each loop by its own turn.
-use Rattle.std.proofs.Common.{drop, refl, sym}
+-- Each loop by its own turn, and a procedure that waits.
+use Rattle.std.proofs.Common.{◌+◌, ◌<◌, ◌≤◌, arith, drop, length, refl, sym}
+use Rattle.std.proofs.lemmas.Bool.Decides.{nat_tests}
+use Rattle.std.proofs.lemmas.List.{length-drop}
 use Rattle.ps_language.specs.declared.operators.Operator.TheVariants.{Repeat, Loop, For, Forall}
 use Rattle.ps_ops_control.proofs.Loops.{forall_ends}
+use Rattle.ps_word.proofs.Reading.{enterable}
+use Rattle.ps_ops_operands.proofs.Operands.{first_split}
 use Rattle.ps_ops_state.specs.Lent.{Lent, lent}
 use Rattle.ps_ops_state.proofs.Lifts.{ready}
-use Rattle.ps_step_frames.proofs.GoingAhead.{ahead, goes_so, left_so, same_left}
+use Rattle.ps_step_frames.proofs.GoingAhead.{ahead, goes_so, left_so, same_left, waits_ahead}
 use Rattle.ps_step_frames.proofs.ahead.turn_ahead.Goals as goal
 
 pub returns-in-Repeat-clause-goes : goal.returns-in-Repeat-clause-goes
@@ -65,3 +69,17 @@ returns-in-Some-clause-left g c =
     c.args.context.now c.args.shared.now in
     left_so l c.forall_ahead.result _ _ c.forall_ahead.ensures.operands
     c.forall_ahead.ensures.frames
+
+pub returns-else-is_full-clause-goes : goal.returns-else-is_full-clause-goes
+returns-else-is_full-clause-goes g c =
+    let l : Lent = lent (g.M.Memory.heap c.args.memory.now) (g.M.Memory.grants c.args.memory.now)
+    c.args.context.now c.args.shared.now in
+    let read = enterable _ _ _ c.in-Some-as_enterable.ensures in
+    let few : length l.frames < 250 =
+    grind (arith, nat_tests, c.is_full.ensures, c.if-is_full.false) in
+    let room : 1 + length (drop 1 l.frames) ≤ 250 = omega (arith, few, length-drop 1 l.frames) in
+    λ asks. rw c.drop_top-in-Pending.ensures.frames
+    (waits_ahead l c.requires.good c.in-Pending.word
+    (first_split _ _ (rw c.in-Pending.is at (sym c.requires.top))) read.flag
+    c.in-Some-as_enterable.body read.array read.may asks c.enter_ahead.result
+    c.enter_ahead.ensures room)
