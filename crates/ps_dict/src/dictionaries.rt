@@ -219,12 +219,7 @@ fn position_from<M: Memory>(
 
 /// The same of a name, whose hash number is its own.
 #[inline(always)]
-fn name_position<M: Memory>(
-    memory: &mut M,
-    address: u32,
-    key: Word,
-    name: u16,
-) -> Option<u32>
+fn name_position<M: Memory>(memory: &mut M, address: u32, key: Word, name: u16) -> Option<u32>
     requires sound { IsSound (M.heap memory.old) }
     requires known { StandsAs (M.heap memory.old) Kind.Dictionary address 4 }
     requires held { IsValue (M.heap memory.old) key }
