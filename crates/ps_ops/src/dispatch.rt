@@ -6,7 +6,7 @@ ghost use Rattle.ps_ops_state.specs.Lent.{lent, lent_of, IsGood};
 ghost use Rattle.ps_ops.specs.Operators.{asked_of, row_now, is_done};
 
 use crate::exits::exit;
-use crate::joins::{copy, get, put};
+use crate::joins::{copy, get, put_apart};
 use ps_language::operators::Operator;
 use ps_mem::Memory;
 use ps_ops_control::control;
@@ -128,7 +128,7 @@ pub fn operate<M: Memory>(
             attempt.slot,
             attempt.refused,
         )),
-        Operator::Put => put(context, runtime, attempt),
+        Operator::Put => put_apart(context, runtime, attempt),
         Operator::Copy => copy(context, runtime, attempt),
         Operator::Equals => output::equals(context, runtime),
         Operator::EqualsEquals => output::equals_equals(context, runtime),
@@ -162,7 +162,7 @@ pub fn operate<M: Memory>(
         Operator::Cvi => cvi(context, runtime),
         Operator::Cvn => cvn(context, runtime),
         Operator::Cvs => cvs(context, runtime, attempt),
-        Operator::Def => definitions::def(context, runtime, attempt),
+        Operator::Def => definitions::def_apart(context, runtime, attempt),
         Operator::Store => definitions::store(context, runtime, attempt),
         Operator::Undef => undef(context, runtime, attempt),
         Operator::EndDict => end_dict(context, runtime, attempt),

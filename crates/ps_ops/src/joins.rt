@@ -64,6 +64,22 @@ pub fn put<M: Memory>(
     }
 }
 
+/// The same by a call, so that what has many operators stays small.
+#[inline(never)]
+pub fn put_apart<M: Memory>(
+    context: &mut Context,
+    runtime: &mut Runtime<M>,
+    attempt: Attempt,
+) -> Result<(), Break>
+    requires good { IsGood (lent_of M.heap M.grants context.old runtime.old) }
+    ensures acts { Acts put_asks (naming_row put_row) attempt result
+        (lent_of M.heap M.grants context.old runtime.old)
+        (lent_of M.heap M.grants context.new runtime.new) }
+    ensures frames { context.new.frames ≡ context.old.frames }
+{
+    put(context, runtime, attempt)
+}
+
 /// `x1 .. xn n copy x1 .. xn x1 .. xn`, or `X Y copy Z`: what `X` holds into the front of `Y`, two
 /// arrays, strings or dictionaries, and that part of `Y`. Raises `stackunderflow`, `typecheck`,
 /// `invalidaccess`, `rangecheck`, `limitcheck`, `stackoverflow`, and `VMerror` of a dictionary. Not

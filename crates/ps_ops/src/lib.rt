@@ -11,6 +11,8 @@
 //! - What raises no error on operands alone is done in `operate_ahead`, and what neither sees nor
 //!   changes frames in `operate_under`. What raises is found twice, and such an operator has two
 //!   places.
+//! - `operate_under` calls `put` and `def` each by itself (`put_under`, `def_under`): a function
+//!   makes room for all that is in line in it. `operate` calls them apart, and stays small.
 //! - No clause says which operators those two take up. A body that leaves all of them is right, and
 //!   slow.
 //! - `frugal_operators` names the operators that ask for nothing, by the same function that says

@@ -43,6 +43,77 @@ fn came(outcome: Result<(), Break>) -> Under
     }
 }
 
+/// `put`, by a call of its own: so it makes no room for what other operators need.
+#[inline(never)]
+fn put_under<M: Memory>(context: &mut Context, runtime: &mut Runtime<M>, slot: Slot) -> Under
+    requires good { IsGood (lent_of M.heap M.grants context.old runtime.old) }
+    ensures frames { context.new.frames ≡ context.old.frames }
+    ensures acts { ActsUnder Operator.Put slot result
+        (lent_of M.heap M.grants context.old runtime.old)
+        (lent_of M.heap M.grants context.new runtime.new) }
+{
+    let attempt = Attempt {
+        slot,
+        refused: false,
+    };
+    came(put(context, runtime, attempt))
+}
+
+/// `def`, likewise.
+#[inline(never)]
+fn def_under<M: Memory>(context: &mut Context, runtime: &mut Runtime<M>, slot: Slot) -> Under
+    requires good { IsGood (lent_of M.heap M.grants context.old runtime.old) }
+    ensures frames { context.new.frames ≡ context.old.frames }
+    ensures acts { ActsUnder Operator.Def slot result
+        (lent_of M.heap M.grants context.old runtime.old)
+        (lent_of M.heap M.grants context.new runtime.new) }
+{
+    let attempt = Attempt {
+        slot,
+        refused: false,
+    };
+    came(def(context, runtime, attempt))
+}
+
+/// The other operators that programs call often and that neither see nor change frames, where they
+/// raise no error and are made. All others are left.
+#[inline(never)]
+fn often_under<M: Memory>(
+    operator: Operator,
+    context: &mut Context,
+    runtime: &mut Runtime<M>,
+    slot: Slot,
+) -> Under
+    requires good { IsGood (lent_of M.heap M.grants context.old runtime.old) }
+    ensures frames { context.new.frames ≡ context.old.frames }
+    ensures acts { ActsUnder operator slot result
+        (lent_of M.heap M.grants context.old runtime.old)
+        (lent_of M.heap M.grants context.new runtime.new) }
+{
+    match operator {
+        Operator::Get => came(get(context, runtime)),
+        Operator::Length => came(length(context, runtime)),
+        Operator::Aload => came(made(arrays::aload(&mut context.operands, &mut runtime.memory))),
+        Operator::Array => {
+            let outcome = array(&mut context.operands, &mut runtime.memory, slot, false);
+            came(tried(outcome))
+        }
+        Operator::EndArray => {
+            let outcome = end_array(&mut context.operands, &mut runtime.memory, slot, false);
+            came(tried(outcome))
+        }
+        Operator::MakeString => {
+            let outcome = string(&mut context.operands, &mut runtime.memory, slot, false);
+            came(tried(outcome))
+        }
+        Operator::Load => came(load(context, runtime)),
+        Operator::Known => came(known(context, runtime)),
+        Operator::Begin => came(begin(context, runtime)),
+        Operator::End => came(end(context, runtime)),
+        _ => Under::Left,
+    }
+}
+
 /// An operator that programs call often acts in an ordinary step, where it raises no error and is
 /// made. The others are left.
 #[inline(never)]
@@ -58,32 +129,9 @@ pub fn operate_under<M: Memory>(
         (lent_of M.heap M.grants context.old runtime.old)
         (lent_of M.heap M.grants context.new runtime.new) }
 {
-    let attempt = Attempt {
-        slot,
-        refused: false,
-    };
     match operator {
-        Operator::Get => came(get(context, runtime)),
-        Operator::Put => came(put(context, runtime, attempt)),
-        Operator::Length => came(length(context, runtime)),
-        Operator::Aload => came(made(arrays::aload(&mut context.operands, &mut runtime.memory))),
-        Operator::Array => {
-            let outcome = array(&mut context.operands, &mut runtime.memory, slot, false);
-            came(tried(outcome))
-        }
-        Operator::EndArray => {
-            let outcome = end_array(&mut context.operands, &mut runtime.memory, slot, false);
-            came(tried(outcome))
-        }
-        Operator::MakeString => {
-            let outcome = string(&mut context.operands, &mut runtime.memory, slot, false);
-            came(tried(outcome))
-        }
-        Operator::Def => came(def(context, runtime, attempt)),
-        Operator::Load => came(load(context, runtime)),
-        Operator::Known => came(known(context, runtime)),
-        Operator::Begin => came(begin(context, runtime)),
-        Operator::End => came(end(context, runtime)),
+        Operator::Put => put_under(context, runtime, slot),
+        Operator::Def => def_under(context, runtime, slot),
         Operator::Exec
         | Operator::If
         | Operator::IfElse
@@ -95,6 +143,16 @@ pub fn operate_under<M: Memory>(
         | Operator::Exit
         | Operator::Stop
         | Operator::Bind => Under::Left,
+        Operator::Get
+        | Operator::Length
+        | Operator::Aload
+        | Operator::Array
+        | Operator::EndArray
+        | Operator::MakeString
+        | Operator::Load
+        | Operator::Known
+        | Operator::Begin
+        | Operator::End => often_under(operator, context, runtime, slot),
         _ => seldom_under(operator, context, runtime, slot),
     }
 }

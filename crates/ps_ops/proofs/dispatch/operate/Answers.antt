@@ -212,7 +212,7 @@ returns-in-EndArray g c = named c.in-EndArray.is c.tried-in-EndArray.ensures
     c.end_array.ensures.does c.end_array.ensures.ready c.end_array.ensures.spends)
 
 pub returns-in-Put : goal.returns-in-Put
-returns-in-Put g c = named c.in-Put.is refl c.put.ensures.acts
+returns-in-Put g c = named c.in-Put.is refl c.put_apart.ensures.acts
 
 pub returns-in-Exit : goal.returns-in-Exit
 returns-in-Exit g c = named c.in-Exit.is refl
@@ -315,7 +315,7 @@ pub returns-in-Cvs : goal.returns-in-Cvs
 returns-in-Cvs g c = named c.in-Cvs.is refl c.cvs.ensures.acts
 
 pub returns-in-Def : goal.returns-in-Def
-returns-in-Def g c = named c.in-Def.is refl c.def.ensures.acts
+returns-in-Def g c = named c.in-Def.is refl c.def_apart.ensures.acts
 
 pub returns-in-Store : goal.returns-in-Store
 returns-in-Store g c = named c.in-Store.is refl c.store.ensures.acts

@@ -5,17 +5,12 @@ use Rattle.ps_ops_state.proofs.Asking.{array_made, end_array_made, string_made}
 use Rattle.ps_ops_state.proofs.Changing.{makes_acts}
 use Rattle.ps_ops_state.proofs.Lifts.{observes_acts}
 use Rattle.ps_ops.proofs.Unframed.{acted}
-use Rattle.ps_ops.proofs.under.operate_under.Goals as goal
+use Rattle.ps_ops.proofs.under.often_under.Goals as goal
 
 pub returns-in-Get-clause-acts : goal.returns-in-Get-clause-acts
 returns-in-Get-clause-acts g c =
     acted _ _ _ c.get.ensures.frames c.in-Get.is c.came.ensures refl (λ scene frames. refl)
     (c.get.ensures.acts _)
-
-pub returns-in-Put-clause-acts : goal.returns-in-Put-clause-acts
-returns-in-Put-clause-acts g c =
-    acted _ _ _ c.put.ensures.frames c.in-Put.is c.came-in-Put.ensures refl (λ scene frames. refl)
-    (c.put.ensures.acts)
 
 pub returns-in-Length-clause-acts : goal.returns-in-Length-clause-acts
 returns-in-Length-clause-acts g c =
@@ -49,11 +44,6 @@ returns-in-MakeString-clause-acts g c =
     (came_acts _ _ _ _ _ _ _ c.tried-in-MakeString.ensures
     (makes_acts _ c.requires.good _ _ _ _ c.string-outcome.ensures.keeps _ _ string_made
     c.string-outcome.ensures.does c.string-outcome.ensures.ready c.string-outcome.ensures.spends))
-
-pub returns-in-Def-clause-acts : goal.returns-in-Def-clause-acts
-returns-in-Def-clause-acts g c =
-    acted _ _ _ c.def.ensures.frames c.in-Def.is c.came-in-Def.ensures refl (λ scene frames. refl)
-    (c.def.ensures.acts)
 
 pub returns-in-Load-clause-acts : goal.returns-in-Load-clause-acts
 returns-in-Load-clause-acts g c =
