@@ -4,19 +4,10 @@
 #define TALLOWMARCH_QUOTA_FUNCTIONS
 #include "tallowmarch_quota.h"
 
+#include "counting.h"
+
 #include <stdio.h>
 #include <string.h>
-
-static int passed, failed;
-
-static void count(int so, const char *what) {
-    if (so) {
-        passed++;
-    } else {
-        failed++;
-        printf("%s\n", what);
-    }
-}
 
 static uint32_t start(tallowmarch_standing *run, const char *text) {
     tallowmarch_settings settings = TALLOWMARCH_SETTINGS;

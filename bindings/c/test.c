@@ -3,21 +3,12 @@
  */
 #include "tallowmarch.h"
 
+#include "counting.h"
+
 #include <pthread.h>
 #include <stdio.h>
 #include <stdlib.h>
 #include <string.h>
-
-static int passed, failed;
-
-static void count(int so, const char *what) {
-    if (so) {
-        passed++;
-    } else {
-        failed++;
-        printf("%s\n", what);
-    }
-}
 
 /* The allocations that the run on this thread may still make, those that it asked for, and the blocks that it holds. */
 static _Thread_local long left = 1L << 40, asked, standing;
