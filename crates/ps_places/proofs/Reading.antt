@@ -262,7 +262,7 @@ within_read room gap g text place token w = (
 pub stand_weaker : (P Q : ℕ → Token → Type 0) → ((place : ℕ) (token : Token) → P place token → Q place token)
     → (places : List ℕ) (elements : Tokens) → Stand P places elements → Stand Q places elements
 stand_weaker P Q f [] no_tokens s = tt
-stand_weaker P Q f [] (more_tokens token tokens) s = absurd s
+stand_weaker P Q f [] (more_tokens _ _) s = absurd s
 stand_weaker P Q f (place ∷ places) no_tokens s = absurd s
 stand_weaker P Q f (place ∷ places) (more_tokens token tokens) s =
     (f place token s.0, stand_weaker P Q f places tokens s.1)

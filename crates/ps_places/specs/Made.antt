@@ -18,9 +18,9 @@ IsReadAt text place token = (end : ℕ) × (scan text place ≡ found token end)
 -- each of these tokens is so at its place, and there are as many places
 abbrev pub Stand : (IsSo : ℕ → Token → Type 0) → List ℕ → Tokens → Type 0
 Stand IsSo [] no_tokens = ⊤
-Stand IsSo [] (more_tokens token tokens) = ⊥
+Stand IsSo [] (more_tokens _ _) = ⊥
 Stand IsSo (place ∷ places) no_tokens = ⊥
-Stand IsSo (place ∷ places) (more_tokens token tokens) = IsSo place token × Stand IsSo places tokens
+Stand IsSo (place ∷ places) (more_tokens token rest) = IsSo place token × Stand IsSo places rest
 
 abbrev pub StandAt : (text : List ℕ) → List ℕ → Tokens → Type 0
 StandAt text = Stand (IsReadAt text)
