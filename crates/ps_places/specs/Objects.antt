@@ -55,6 +55,10 @@ objects_within room text at = flat_map (objects_at room text) (token_places text
 unfoldable pub object_begin : (text : List ℕ) (begin object : ℕ) → Option ℕ
 object_begin text begin object = slice_get (objects_at (suc nesting_limit) text begin) object
 
+-- how many objects the token makes
+unfoldable pub object_count : (text : List ℕ) (begin : ℕ) → ℕ
+object_count text begin = length (objects_at (suc nesting_limit) text begin)
+
 -- where an element of an object of the token begins
 unfoldable pub element_begin : (text : List ℕ) (begin object element : ℕ) → Option ℕ
 element_begin text begin object element =

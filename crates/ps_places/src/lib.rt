@@ -17,7 +17,7 @@ mod positions;
 mod tokens;
 
 pub use law::places_laws;
-pub use objects::{element_begin, object_begin};
+pub use objects::{element_begin, object_begin, object_count};
 pub use origins::{Origin, OriginFault, Origins};
 pub use positions::{Position, line_at, position_of};
 pub use tokens::{mark_at, token_begin};

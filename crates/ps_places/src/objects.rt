@@ -3,7 +3,7 @@
 //! A string makes one object, and a procedure those of its elements and then itself. So the objects
 //! of a token have numbers in the order of their births, from 0 for the first.
 
-ghost use Rattle.std.specs.Prelude.{◌≡◌, ◌++◌, ◌∷◌, [], ℕ, List, slice_get};
+ghost use Rattle.std.specs.Prelude.{◌≡◌, ◌++◌, ◌∷◌, [], ℕ, List, min, slice_get};
 ghost use Rattle.ps_language.specs.Scan.{scan};
 ghost use Rattle.ps_places.specs.Objects as objects;
 ghost use Rattle.ps_places.specs.Objects.{IsSought, token_places, elements_in, objects_at};
@@ -100,6 +100,17 @@ pub fn object_begin(text: &[u8], begin: usize, object: usize) -> Option<usize>
     match seek_at(text, begin, object, NESTING_LIMIT + 1) {
         Sought::Begins(place) => Some(place),
         Sought::Behind(_) => None,
+    }
+}
+
+/// How many objects the token at a place makes, with those in it, as far as a `usize` counts them.
+/// `begin`: where that token begins. One that can't be read makes none.
+pub fn object_count(text: &[u8], begin: usize) -> usize
+    ensures { result ≡ min (objects.object_count text.now begin) usize.MAX }
+{
+    match seek_at(text, begin, usize::MAX, NESTING_LIMIT + 1) {
+        Sought::Begins(_) => usize::MAX,
+        Sought::Behind(left) => usize::MAX - left,
     }
 }
 

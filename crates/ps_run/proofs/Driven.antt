@@ -47,6 +47,8 @@ driven_more asks names other A B F G told outputs same more fault driven =
       cut = run.cut;
       report = run.report;
       run = run.run;
+      places = run.places;
+      are_places = run.are_places;
       written = run.written;
       keeps = run.keeps;
     })))
@@ -84,14 +86,14 @@ keeps_program old new recorded many program apart others = λ name holds.
     refl) ∙ holds
 
 -- what was written, where what stood before is told of what stood earlier
-pub written_from : (cut : Bool) (recorded : Option Text) (stats : Bool) (report : Report)
-    (told : Status) (outputs : Outputs) (err : Told) (files : Contents)
+pub written_from : (cut : Bool) (recorded : Option Text) (places : List ℕ) (stats : Bool)
+    (report : Report) (told : Status) (outputs : Outputs) (err : Told) (files : Contents)
     → outputs.err_old ≡ err → outputs.files_old ≡ files
-    → IsWritten cut recorded stats report told outputs
-    → IsWritten cut recorded stats report told
+    → IsWritten cut recorded places stats report told outputs
+    → IsWritten cut recorded places stats report told
     (record outputs { err_old = err; files_old = files })
-written_from cut recorded stats report told outputs err files errs all written =
-    subst (IsWritten cut recorded stats report told)
+written_from cut recorded places stats report told outputs err files errs all written =
+    subst (IsWritten cut recorded places stats report told)
     (λ i. record outputs { err_old = errs i; files_old = all i }) written
 
 among_none : (k : _) (kinds : Kinds) → IsAmong k kinds → kinds ≡ [] → ⊥

@@ -27,7 +27,11 @@ use Rattle.ps_vault.specs.Endings.{AreEndings}
 use Rattle.ps_vault.specs.Order.{InOrder}
 use Rattle.ps_vault.specs.Reports.{Bounds, IsBounded, IsReplayOf, IsRunIn, IsUncollected, IsWithin, UnderPart, WithBudget, are_ordinary}
 use Rattle.ps_vault.specs.Screens.{AppendsPart}
+use Rattle.ps_walks.specs.declared.walks.WalkFault.{WalkFault}
+use Rattle.ps_walks.specs.declared.walks.WalkFault.TheVariants as walk
 use Rattle.ps_run.specs.Telling.{Tells, Told}
+use Rattle.ps_run.specs.declared.places.Places.{Places}
+use Rattle.ps_run.specs.declared.places.Places.TheVariants.{Unasked, Told as ToldPlaces, Untold}
 use Rattle.ps_run.specs.declared.files.ReadFault.{ReadFault}
 use Rattle.ps_run.specs.declared.files.ReadFault.TheVariants as fault
 use Rattle.ps_run.specs.declared.statuses.Status.{Status}
@@ -84,6 +88,24 @@ count_lines report =
 abbrev pub counts_of : (stats : Bool) → Report → List ℕ
 counts_of stats report = if stats then count_lines report else []
 
+-- the line that standard error has of a run that isn't made again
+abbrev pub untold_line : WalkFault → List ℕ
+untold_line walk.Memory = codes "dpsrun: no places: out of memory\n"
+untold_line walk.TooLarge =
+    codes "dpsrun: no places: the run is too large to be made again\n"
+
+-- what is told of the places of its errors
+abbrev pub told_of : Places → List ℕ
+told_of Unasked = []
+told_of (ToldPlaces text) = text.items
+told_of (Untold why) = untold_line why
+
+-- what may be told of the places of its errors: nothing, where they are not asked for, or each
+-- context finished without a line of an error
+pub record ArePlaces (asked : Bool) (report : Report) (places : List ℕ) : Type 0 where
+  pub unasked : asked ≡ false → places ≡ []
+  pub none : report.outcome ≡ Finished → places ≡ []
+
 -- ---- files that are not read
 
 -- what is said of such a file; of memory that was wanted for it there is a line of its own
@@ -123,7 +145,8 @@ abbrev pub most_program_bytes : ℕ
 most_program_bytes = 16777215
 
 -- what the words ask for of a run; plain: whether over memory that is never collected, whatever the
--- space; streamed: whether printed bytes may go out while it goes on; explored: under how many
+-- space; streamed: whether printed bytes may go out while it goes on; places: whether the places of
+-- errors are told; explored: under how many
 -- schedules, if they are chosen by chance; output, entries: the most bytes that it may print, and
 -- the
 -- most entries of its schedule, if there is a bound
@@ -133,6 +156,7 @@ pub record Asked : Type 0 where
   pub quantum : ℕ
   pub plain : Bool
   pub streamed : Bool
+  pub places : Bool
   pub stats : Bool
   pub explored : Option ℕ
   pub output : Option ℕ
@@ -150,7 +174,8 @@ abbrev pub AreAsked : List Text → Asked → Type 0
 AreAsked words asked = (asked.space ≡ unwrap_or (size_in (codes "space") words) 65536)
     × (asked.steps ≡ unwrap_or (size_in (codes "steps") words) 1000000000)
     × IsNumber (codes "quantum") words asked.quantum × IsFlag (codes "plain") words asked.plain
-    × IsFlag (codes "stream") words asked.streamed × IsFlag (codes "stats") words asked.stats
+    × IsFlag (codes "stream") words asked.streamed × IsFlag (codes "where") words asked.places
+    × IsFlag (codes "stats") words asked.stats
     × IsOptional (codes "explore") words asked.explored
     × (asked.output ≡ size_in (codes "output") words)
     × (asked.entries ≡ size_in (codes "entries") words)
@@ -199,6 +224,7 @@ asked_of options = record {
   quantum = options.quantum;
   plain = options.plain;
   streamed = options.stream;
+  places = options.places;
   stats = options.stats;
   explored = options.explore;
   output = options.output;
@@ -340,17 +366,19 @@ IsLost printed told outputs =
 
 -- what was printed is lost in part; or the run was not cut, and the output took all and was
 -- flushed,
--- and then the record was made where one is asked for, and the status is that of the outcome
-abbrev pub IsWritten : (cut : Bool) → (recorded : Option Text) → (stats : Bool) → Report → Status
-    → Outputs → Type 0
-IsWritten cut recorded stats report told outputs =
+-- and then the record was made where one is asked for, the places of errors were told, and the
+-- status is that of the outcome
+abbrev pub IsWritten : (cut : Bool) → (recorded : Option Text) → (places : List ℕ)
+    → (stats : Bool) → Report → Status → Outputs → Type 0
+IsWritten cut recorded places stats report told outputs =
     IsLost report.printed.items told outputs
     ⊎ ((cut ≡ false) × Appends outputs.out_old outputs.out_new report.printed.items
     × (outputs.flushed ≡ true)
     × (IsUnrecorded recorded told outputs
     ⊎ ((told ≡ status_of report.outcome)
     × IsRecorded outputs.files_new recorded report.schedule.items
-    × Tells outputs.err_old outputs.err_new (counts_of stats report ++ line_of told))))
+    × Tells outputs.err_old outputs.err_new
+    (places ++ (counts_of stats report ++ line_of told)))))
 
 -- ---- many runs
 
@@ -460,7 +488,9 @@ module _ (asks : world.Status → Around → Scene → acts.Asked) (names : Name
     pub cut : Bool
     pub report : Report
     pub run : IsFileRun asks outputs.files_old names asked cut report
-    pub written : IsWritten cut names.recorded asked.stats report told outputs
+    pub places : List ℕ
+    pub are_places : ArePlaces asked.places report places
+    pub written : IsWritten cut names.recorded places asked.stats report told outputs
     pub keeps : KeepsProgram outputs.files_old outputs.files_new run.program
 
   -- many runs of the program, under schedules that can be read again, that were written

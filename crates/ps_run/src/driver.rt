@@ -8,11 +8,12 @@ ghost use Rattle.ps_run.specs.Driving.{AreAsked, AreOutOfRange, IsDriven, IsFile
 
 use crate::exploring::explore;
 use crate::files::FileSet;
-use crate::finishing::finish;
+use crate::finishing::{Made, finish};
 use crate::keeping::keep_program;
 use crate::making::{config_of, make};
 use crate::outputs::{Flushing, Telling};
 use crate::outside::Outside;
+use crate::places::{again_of, places_in};
 use crate::reading::{read_given, read_program};
 use crate::statuses::{Status, end, number_of};
 use crate::streams::{output_of, screen_of};
@@ -124,8 +125,8 @@ pub fn drive<
 /// Reads the program, and the schedule where one is named, makes the steps and writes what they
 /// printed. Gives the status and the output.
 fn run<
-    S: Interpret + Drop + Send,
-    D: Deeds + Drop + Send,
+    S: Interpret + Clone + Drop + Send,
+    D: Deeds + Clone + Drop + Send,
     F: FileSet,
     W: Flushing + Drop + Send,
     X: Telling,
@@ -174,6 +175,9 @@ fn run<
         Ok(given) => given,
         Err(status) => return (status, out),
     };
+    let Ok(again) = again_of(options, &makers, bytes, system.keys) else {
+        return (end(&mut outside.err, Status::Memory), out);
+    };
     let job = Job {
         makers,
         program: bytes,
@@ -183,7 +187,14 @@ fn run<
     let screen = screen_of(out, options.stream);
     let Watched { report, screen } = make(system, job, options, given, screen);
     match report {
-        Ok(report) => finish(alloc, &report, options, screen, outside),
+        Ok(report) => {
+            let places = places_in(alloc, again, options, &report);
+            let made = Made {
+                report: &report,
+                places: places.text(),
+            };
+            finish(alloc, made, options, screen, outside)
+        }
         Err(RunFault::Memory) => (end(&mut outside.err, Status::Memory), output_of(screen)),
         Err(RunFault::Config) => (Status::Usage, output_of(screen)),
     }

@@ -18,26 +18,34 @@ use ps_run_schedules::{Entries, append_schedule, steps_of};
 use ps_vault::{Outcome, Report, Screen};
 use std::alloc::Global;
 
-/// Writes what of the printed bytes was not shown, then the record and the counts where they are
-/// asked for, then the line that belongs to the status. Gives the output back. Where showing failed
-/// nothing of these is written.
+/// A run, and what is told of the places of its errors.
+#[derive(Clone, Copy)]
+pub(crate) struct Made<'r> {
+    pub(crate) report: &'r Report,
+    pub(crate) places: &'r [u8],
+}
+
+/// Writes what of the printed bytes was not shown, then the record where it is asked for, then the
+/// places of errors, the counts where they are asked for, and the line that belongs to the status.
+/// Gives the output back. Where showing failed nothing of these is written.
 pub(crate) fn finish<F: FileSet, W: Flushing + Drop, X: Telling>(
     alloc: Global,
-    report: &Report,
+    made: Made<'_>,
     options: &Options<'_>,
     screen: Screen<Stream<W>>,
     outside: &mut Outside<F, X>,
 ) -> (Status, W)
-    requires within { screen.shown ≤ length report.now.printed.items }
+    requires within { screen.shown ≤ length made.report.now.printed.items }
     ensures others { (other : List ℕ) → ¬ IsRecordName (names_of options.now).recorded None other
         → F.contents outside.new.files other ≡ F.contents outside.old.files other }
     ensures reads { F.last_fault outside.new.files ≡ F.last_fault outside.old.files }
     ensures unwritten { F.is_unwritten outside.old.files ≡ false
         → F.is_unwritten outside.new.files ≡ true
         → result.0 ≡ Status.Usage }
-    ensures written { (first : Option (List ℕ)) → HasShown first screen report.now.printed.items
-        → IsWritten screen.failed (names_of options.now).recorded options.now.stats report.now
-        result.0 (record {
+    ensures written { (first : Option (List ℕ))
+        → HasShown first screen made.entry.report.now.printed.items
+        → IsWritten screen.failed (names_of options.now).recorded made.entry.places.now
+        options.now.stats made.entry.report.now result.0 (record {
           out_old = first;
           out_new = W.contents result.1;
           err_old = X.told outside.old.err;
@@ -47,6 +55,7 @@ pub(crate) fn finish<F: FileSet, W: Flushing + Drop, X: Telling>(
           flushed = W.is_flushed result.1;
         }) }
 {
+    let report = made.report;
     let (written, out) = write_rest(screen, report.printed.as_slice());
     if written.is_err() {
         return (tell_lost(&mut outside.err), out);
@@ -55,7 +64,7 @@ pub(crate) fn finish<F: FileSet, W: Flushing + Drop, X: Telling>(
         return (status, out);
     }
     let status = status_of(report.outcome);
-    tell(report, options.stats, status, &mut outside.err);
+    tell_all(made, options.stats, status, &mut outside.err);
     (status, out)
 }
 
@@ -130,6 +139,16 @@ pub(crate) fn write_schedule<F: FileSet, X: Telling>(
             Err(Status::Usage)
         }
     }
+}
+
+/// Tells the places of a run's errors, then its counts, where they are asked for, and the line of its
+/// status.
+fn tell_all<X: Telling>(made: Made<'_>, stats: bool, status: Status, err: &mut X)
+    ensures { Tells (X.told err.old) (X.told err.new) (made.entry.places.now
+        ++ (driving.counts_of stats made.entry.report.now ++ driving.line_of status)) }
+{
+    err.tell(made.places);
+    tell(made.report, stats, status, err);
 }
 
 /// Tells the counts of a run, where they are asked for, and the line of its status.

@@ -43,6 +43,7 @@ mod keeping;
 mod making;
 mod outputs;
 mod outside;
+mod places;
 mod progress;
 mod reading;
 mod statuses;

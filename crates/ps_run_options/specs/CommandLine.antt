@@ -52,8 +52,8 @@ with_limits app = with_rule
 
 abbrev pub with_flags : App → App
 with_flags app = with_rule
-    (with_rule (with_rule app (flag_rule (codes "plain"))) (flag_rule (codes "stats")))
-    (flag_rule (codes "stream"))
+    (with_rule (with_rule (with_rule app (flag_rule (codes "plain"))) (flag_rule (codes "stats")))
+    (flag_rule (codes "stream"))) (flag_rule (codes "where"))
 
 -- the schedules: the files that have them, and how many are chosen by chance
 abbrev pub with_schedules : App → App
@@ -83,16 +83,17 @@ is_set None = false
 is_set (Some text) = bytes_eq text (codes "true")
 
 -- what is given beside what it can't be used with: a schedule beside anything else that says how
--- the run is made or records it, or a stream beside many runs
-abbrev pub excludes : (replay plain recorded explored entries streamed : Option Text) → Bool
-excludes replay plain recorded explored entries streamed =
+-- the run is made or records it, or a stream or places beside many runs
+abbrev pub excludes : (replay plain recorded explored entries streamed places : Option Text) → Bool
+excludes replay plain recorded explored entries streamed places =
     is_some replay && (is_set plain || is_some recorded || is_some explored || is_some entries)
-    || is_set streamed && is_some explored
+    || is_set streamed && is_some explored || is_set places && is_some explored
 
 abbrev pub is_excluded : List Text → Bool
 is_excluded words = excludes (named_in (codes "replay") words) (named_in (codes "plain") words)
     (named_in (codes "record") words) (named_in (codes "explore") words)
     (named_in (codes "entries") words) (named_in (codes "stream") words)
+    (named_in (codes "where") words)
 
 -- a number in decimal, of any size
 abbrev pub is_number : Text → Bool

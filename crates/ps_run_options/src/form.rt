@@ -92,6 +92,11 @@ fn with_flags<'a>(alloc: Global, command: Command<'a>) -> Result<Command<'a>, Al
             alloc,
             "stream",
             "hand printed bytes on while the run goes on; not with --explore",
+        ))?
+        .arg(flag(
+            alloc,
+            "where",
+            "tell where the error of each error line is; not with --explore",
         ))
 }
 

@@ -28,6 +28,9 @@ const TWO_SOURCES: &str = "the argument '<FILE>' cannot be used with '-e <TEXT>'
 const REPLAY_EXCLUDED: &str = "the argument '--replay <FILE>' cannot be used with '--plain', \
     '--record <FILE>', '--explore <N>' or '--entries <N>'";
 
+/// What is told of places that are asked for beside many runs.
+const WHERE_EXCLUDED: &str = "the argument '--where' cannot be used with '--explore <N>'";
+
 /// What is told of a stream that is asked for beside many runs.
 const STREAM_EXCLUDED: &str = "the argument '--stream' cannot be used with '--explore <N>'";
 
@@ -67,6 +70,8 @@ pub struct Options<'a> {
     pub plain: bool,
     /// Whether printed bytes are handed on while the run goes on. Then it is a single one.
     pub stream: bool,
+    /// Whether the place of each error whose line is printed is told. Then it is a single run.
+    pub places: bool,
     /// How many schedules the program is run under, if they are chosen by chance: from 1 to 65,535.
     pub explore: Option<u32>,
     /// The name of the file that the schedule of the run is written to, if it is. Where schedules
@@ -121,7 +126,8 @@ fn excluded(matches: &ArgMatches<'_>) -> Option<&'static str>
         (first_value (found_of matches.now) (codes "record"))
         (first_value (found_of matches.now) (codes "explore"))
         (first_value (found_of matches.now) (codes "entries"))
-        (first_value (found_of matches.now) (codes "stream")) }
+        (first_value (found_of matches.now) (codes "stream"))
+        (first_value (found_of matches.now) (codes "where")) }
 {
     let explores = matches.get_str("explore").is_some();
     let makes_otherwise = is_set(matches, "plain")
@@ -133,6 +139,9 @@ fn excluded(matches: &ArgMatches<'_>) -> Option<&'static str>
     }
     if is_set(matches, "stream") && explores {
         return Some(STREAM_EXCLUDED);
+    }
+    if is_set(matches, "where") && explores {
+        return Some(WHERE_EXCLUDED);
     }
     None
 }
@@ -287,8 +296,8 @@ pub fn overwritten(alloc: Global) -> Result<Error, AllocError>
 /// Reads the words of a command line, without the program's name. The error is the first fault of
 /// the words by the rules of the command line; or that they name no program or two; or that the
 /// text of a size is none in its range; or that a schedule is given and `--plain`, `--record`,
-/// `--explore` or `--entries` stands there too, or `--stream` and `--explore`; or that a record would
-/// be written over the program, as far as the names tell; or want of memory.
+/// `--explore` or `--entries` stands there too, or `--explore` and `--stream` or `--where`; or that a
+/// record would be written over the program, as far as the names tell; or want of memory.
 pub fn parse<'a>(alloc: Global, words: &'a [&'a str]) -> Result<Options<'a>, Error>
     ensures fault { FailsBy (spec.faults_in (map (λ word. word.now) words.entry.now)) result }
     ensures file { IfOk result (λ options. file_of options.source
@@ -307,6 +316,8 @@ pub fn parse<'a>(alloc: Global, words: &'a [&'a str]) -> Result<Options<'a>, Err
         (map (λ word. word.now) words.entry.now) options.plain) }
     ensures stream { IfOk result (λ options. spec.IsFlag (codes "stream")
         (map (λ word. word.now) words.entry.now) options.stream) }
+    ensures places { IfOk result (λ options. spec.IsFlag (codes "where")
+        (map (λ word. word.now) words.entry.now) options.places) }
     ensures numbers { IfOk result
         (λ options. spec.AreNumbers (map (λ word. word.now) words.entry.now) (record {
           space = options.space;
@@ -347,6 +358,7 @@ pub fn parse<'a>(alloc: Global, words: &'a [&'a str]) -> Result<Options<'a>, Err
         stats: matches.get_flag("stats"),
         plain: matches.get_flag("plain"),
         stream: matches.get_flag("stream"),
+        places: matches.get_flag("where"),
         explore: matches.get_one::<u32>("explore"),
         output: sizes.output,
         entries: sizes.entries,

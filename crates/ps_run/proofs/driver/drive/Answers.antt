@@ -36,6 +36,8 @@ are_asked g c asked is = (
       (sym (ap (λ (a : Asked). a.plain) is)) c.in-Ok.ensures.plain,
   subst (IsFlag (codes "stream") (map (λ word. word.now) c.args.words.now))
       (sym (ap (λ (a : Asked). a.streamed) is)) c.in-Ok.ensures.stream,
+  subst (IsFlag (codes "where") (map (λ word. word.now) c.args.words.now))
+      (sym (ap (λ (a : Asked). a.places) is)) c.in-Ok.ensures.places,
   subst (IsFlag (codes "stats") (map (λ word. word.now) c.args.words.now))
       (sym (ap (λ (a : Asked). a.stats) is)) c.in-Ok.ensures.stats,
   subst (IsOptional (codes "explore") (map (λ word. word.now) c.args.words.now))

@@ -39,8 +39,10 @@ returns-in-Ok-report-clause-run g c =
             c.screen_of-screen.ensures.watching c.screen_of-screen.ensures.failed
             c.make-report.ensures.still;
       };
+      places = c.text.result.now;
+      are_places = rw c.text.ensures c.places_in-places.ensures;
       written =
-          written_from _ _ _ report _ _ _ _
+          written_from _ _ _ _ report _ _ _ _
           (ap g.X.Telling.told (c.in-Ok-read_given.ensures.told
           ∙ (c.in_default.ensures.told ∙ c.in-Ok.ensures.told)))
           (c.in-Ok-read_given.ensures.kept ∙ c.in-Ok.ensures.kept)
@@ -62,14 +64,14 @@ returns-in-Err-Memory-clause-run g c =
     rw c.as_slice-bytes.ensures.value at
     (of_fault _ c.in-Err-Memory.field-0 c.in-Err-Memory.is c.make-report.ensures.unshown) in
     inr (inl (
-      c.end.ensures.status,
+      c.end-in-Err-Memory.ensures.status,
       begun_or_same g.S.Interpret.asks (names_of c.args.options.now)
           (λ (asked : Asked). asked ≡ asked_of c.args.options.now) (asked_of c.args.options.now) _
           c.in-Ok.program.items screen shown refl c.requires.single c.in-Ok.ensures.program
           c.screen_of-screen.ensures.watching (sym c.screen_of-screen.ensures.seen)
           c.output_of.ensures c.make-report.ensures.still some,
       c.in-Ok-read_given.ensures.kept ∙ c.in-Ok.ensures.kept,
-      subst (λ (old : Told). Tells old (g.X.Telling.told c.end.new.err) (line_of status.Memory))
+      subst (λ (old : Told). Tells old (g.X.Telling.told c.end-in-Err-Memory.new.err) (line_of status.Memory))
           (ap g.X.Telling.told (c.in-Ok-read_given.ensures.told
-          ∙ (c.in_default.ensures.told ∙ c.in-Ok.ensures.told))) c.end.ensures.told,
+          ∙ (c.in_default.ensures.told ∙ c.in-Ok.ensures.told))) c.end-in-Err-Memory.ensures.told,
     ))

@@ -83,7 +83,8 @@ excluded_is : (made : Command) (words : List Text) (m : ArgMatches) → app_of m
     → excludes (first_value (found_of m) (codes "replay"))
     (first_value (found_of m) (codes "plain")) (first_value (found_of m) (codes "record"))
     (first_value (found_of m) (codes "explore")) (first_value (found_of m) (codes "entries"))
-    (first_value (found_of m) (codes "stream")) ≡ is_excluded words
+    (first_value (found_of m) (codes "stream")) (first_value (found_of m) (codes "where"))
+    ≡ is_excluded words
 excluded_is made words m is has =
     let replay = name_is made words m (codes "replay") is has in
     let plain = name_is made words m (codes "plain") is has in
@@ -91,7 +92,8 @@ excluded_is made words m is has =
     let explored = name_is made words m (codes "explore") is has in
     let entries = name_is made words m (codes "entries") is has in
     let streamed = name_is made words m (codes "stream") is has in
-    λ i. excludes (replay i) (plain i) (recorded i) (explored i) (entries i) (streamed i)
+    let places = name_is made words m (codes "where") is has in
+    λ i. excludes (replay i) (plain i) (recorded i) (explored i) (entries i) (streamed i) (places i)
 
 -- whether a record is written over the program
 overwritten_is : (made : Command) (words : List Text) (m : ArgMatches)
@@ -283,6 +285,14 @@ returns-clause-stream c =
       unset = λ told. c.get_flag-3.ensures.other (is ∙ told);
     }
 
+pub returns-clause-places : goal.returns-clause-places
+returns-clause-places c =
+    let is = flag_is _ _ _ (codes "where") c.in_ok-line.ensures c.in_ok-matches.ensures.ok.2 in
+    record {
+      set = λ told. c.get_flag-4.ensures.value (is ∙ told);
+      unset = λ told. c.get_flag-4.ensures.other (is ∙ told);
+    }
+
 -- a number of 32 bits that was read of its text is that of the text
 number_read : {E : Type 0} (A B : Text → Result ℕ E → Type 0) (text : Text) (found : Option ℕ)
     (other : ℕ)
@@ -403,7 +413,7 @@ explore_rules = (
                         λ e. cc,
                         (
                           λ e. cc,
-                          (λ e. refl, tt),
+                          (λ e. cc, (λ e. refl, tt)),
                         ),
                       ),
                     ),

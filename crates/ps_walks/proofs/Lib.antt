@@ -1,0 +1,5 @@
+pub mod Following
+pub mod Knowing
+pub mod Noting
+pub mod Stopping
+pub mod Walking

@@ -1,0 +1,27 @@
+//! A run that is made again, step by step, and tells where the error of each error line is (PLRM2,
+//! 3.10).
+//!
+//! Why so:
+//! - No element of a procedure carries a place, and a run is made as ever. Who wants places makes it
+//!   a second time from its own schedule, over memory that only grows.
+//! - Where a token stands is known while it is taken, so the tokens that made objects are kept
+//!   (`Origins`), and for each context what it took last (`Taken`).
+//! - An error is kept where it is raised, for its context, and told where its line is printed. So an
+//!   error that was caught and stopped for again is told where it was raised.
+//! - Whether a step printed the line of an error is what the contexts note of it (`has_faulted`),
+//!   which a walk makes new before each step. So no printed byte is looked at.
+//! - `stop` begins an unwinding as an error does, and `$error` may have the same error as before. So
+//!   a step raised an error where it began one and what it took isn't the operator `stop`.
+#![tactic(auto)]
+
+mod before;
+mod errors;
+mod kept;
+mod raised;
+mod seats;
+mod stops;
+mod taken;
+mod telling;
+mod walks;
+
+pub use walks::{Rerun, WalkFault, places_of};

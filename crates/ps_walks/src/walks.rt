@@ -1,0 +1,215 @@
+//! A run that is made again, step by step.
+
+ghost use Rattle.std.specs.Prelude.{◌≡◌, ◌+◌, ◌<◌, ◌==◌, if◌then◌else◌, true, OnOk};
+ghost use Rattle.ps_language.specs.Locks as locks;
+ghost use Rattle.ps_language.specs.World.{World as TheWorld};
+ghost use Rattle.ps_language.specs.Worlds.{after_move};
+ghost use Rattle.ps_ctx_table.specs.Desks.{IsWorld};
+ghost use Rattle.ps_run_schedules.specs.Turns.{move_of};
+ghost use Rattle.ps_language.specs.Schedules.{last_move, moves, moves_of, plain_move};
+ghost use Rattle.ps_walks.specs.Walks.{Stands, desk_in, walked, walked_all};
+
+use crate::before::known_of;
+use crate::kept::Kept;
+use ps_ctx::deeds::Deeds;
+use ps_ctx::makers::Makers;
+use ps_ctx::starts::start_world;
+use ps_ctx::worlds::World;
+use ps_ctx_start::start::Setup;
+use ps_language::schedules::Entry;
+use ps_mem::marked::plain_with_marks;
+use ps_mem::{Memory, Slot};
+use ps_ops_state::lent::{Attempt, Runtime};
+use ps_run_schedules::Entries;
+use ps_step_interpreter::interprets::Interpret;
+use std::alloc::{AllocError, Global};
+use thiserror::Error;
+
+/// Why a run isn't made again.
+#[derive(Clone, Copy, Debug, PartialEq, Eq, Error)]
+pub enum WalkFault {
+    /// A growth was refused.
+    #[error("out of memory")]
+    Memory,
+    /// It takes more words in all than a memory that only grows has.
+    #[error("the run is too large to be made again")]
+    TooLarge,
+}
+
+/// A run to be made again: its program and makers, and what the program's file is called.
+#[derive(Drop)]
+pub struct Rerun<'a, S: Drop, D: Drop> {
+    pub makers: Makers<S, D>,
+    pub program: &'a [u8],
+    pub setup: Setup,
+    pub file: &'a [u8],
+}
+
+/// The words that a step can ask for at most, with some to spare.
+const MOST_ASKED: u32 = 1 << 18;
+
+/// A run that is made again.
+#[derive(Drop)]
+struct Walk<'a, M: Memory + Drop, S: Interpret + Drop, D: Deeds + Drop> {
+    makers: Makers<S, D>,
+    world: World,
+    runtime: Runtime<'a, M>,
+    kept: Kept<'a>,
+}
+
+/// The texts of the places of the errors whose lines the steps of a schedule print, in their order.
+///
+/// `Memory`: a growth was refused. `TooLarge`: the run takes more words in all than the 16,777,215
+/// of memory that only grows.
+pub fn places_of<S: Interpret + Drop, D: Deeds + Drop>(
+    alloc: Global,
+    run: Rerun<'_, S, D>,
+    schedule: Entries<'_>,
+) -> Result<Vec<u8>, WalkFault> {
+    let Rerun {
+        makers,
+        program,
+        setup,
+        file,
+    } = run;
+    let mut memory = plain_with_marks(alloc);
+    let Ok((world, shared)) = start_world(alloc, &mut memory, program, setup) else {
+        return Err(WalkFault::Memory);
+    };
+    let mut walk = Walk {
+        makers,
+        world,
+        runtime: Runtime { shared, memory },
+        kept: Kept::new(alloc, file),
+    };
+    walk.follow_all(alloc, schedule)?;
+    let Walk { kept, .. } = walk;
+    Ok(kept.into_told())
+}
+
+impl<M: Memory + Drop, S: Interpret + Drop, D: Deeds + Drop> Walk<'_, M, S, D> {
+    /// Makes the steps of a schedule.
+    fn follow_all(&mut self, alloc: Global, schedule: Entries<'_>) -> Result<(), WalkFault>
+        requires stands { Stands M.heap M.grants self.old.runtime self.old.world }
+        ensures stands { OnOk result (Stands M.heap M.grants self.new.runtime self.new.world) }
+        ensures walked { OnOk result ((w : TheWorld)
+            → IsWorld (desk_in M.heap M.grants self.old.runtime self.old.world) w
+            → IsWorld (desk_in M.heap M.grants self.new.runtime self.new.world)
+            (walked_all w (moves schedule.entry))) }
+    {
+        let mut left = schedule;
+        while let Some(entry) = left.next() {
+            self.follow(alloc, entry)?;
+        }
+        Ok(())
+    }
+
+    /// Makes the steps of an entry.
+    fn follow(&mut self, alloc: Global, entry: Entry) -> Result<(), WalkFault>
+        requires stands { Stands M.heap M.grants self.old.runtime self.old.world }
+        ensures stands { OnOk result (Stands M.heap M.grants self.new.runtime self.new.world) }
+        ensures walked { OnOk result ((w : TheWorld)
+            → IsWorld (desk_in M.heap M.grants self.old.runtime self.old.world) w
+            → IsWorld (desk_in M.heap M.grants self.new.runtime self.new.world)
+            (walked_all w (moves_of entry entry.steps))) }
+    {
+        for number in 0..entry.steps {
+            let (refused, shown) = way_of(entry, number);
+            self.try_step(alloc, entry.context, refused, shown)?;
+        }
+        Ok(())
+    }
+
+    /// Makes a step of a context, if it is ready.
+    fn try_step(
+        &mut self,
+        alloc: Global,
+        context: u32,
+        refused: bool,
+        shown: Option<(i32, i32)>,
+    ) -> Result<(), WalkFault>
+        requires stands { Stands M.heap M.grants self.old.runtime self.old.world }
+        ensures stands { OnOk result (Stands M.heap M.grants self.new.runtime self.new.world) }
+        ensures walked { OnOk result ((w : TheWorld)
+            → IsWorld (desk_in M.heap M.grants self.old.runtime self.old.world) w
+            → IsWorld (desk_in M.heap M.grants self.new.runtime self.new.world)
+            (walked w (move_of context refused shown))) }
+    {
+        self.world.contexts.has_faulted = false;
+        self.kept.pass(1);
+        let is_ready = self
+            .makers
+            .operators
+            .is_ready(context, &self.world.contexts, &mut self.runtime);
+        if is_ready {
+            self.step(alloc, context, refused, shown)?;
+        }
+        Ok(())
+    }
+
+    /// Makes a step of a context that is ready.
+    fn step(
+        &mut self,
+        alloc: Global,
+        context: u32,
+        refused: bool,
+        shown: Option<(i32, i32)>,
+    ) -> Result<(), WalkFault>
+        requires stands { Stands M.heap M.grants self.old.runtime self.old.world }
+        requires ready { (w : TheWorld)
+            → IsWorld (desk_in M.heap M.grants self.old.runtime self.old.world) w
+            → locks.is_ready w context ≡ true }
+        ensures stands { OnOk result (Stands M.heap M.grants self.new.runtime self.new.world) }
+        ensures made { OnOk result ((w : TheWorld)
+            → IsWorld (desk_in M.heap M.grants self.old.runtime self.old.world) w
+            → IsWorld (desk_in M.heap M.grants self.new.runtime self.new.world)
+            (after_move w (move_of context refused shown))) }
+    {
+        let known = known_of(context, &self.kept.seats, &self.world, &mut self.runtime);
+        let attempt = Attempt {
+            slot: Slot::of(context),
+            refused,
+        };
+        let Ok(_note) = self.world.step(
+            &mut self.makers,
+            &mut self.runtime,
+            context,
+            attempt,
+            shown,
+        )
+        else {
+            return Err(fault_of(&mut self.runtime));
+        };
+        match self
+            .kept
+            .behind(alloc, known, &self.world, &mut self.runtime)
+        {
+            Ok(()) => Ok(()),
+            Err(AllocError) => Err(WalkFault::Memory),
+        }
+    }
+}
+
+/// Whether the step of an entry behind so many of it is refused, and what it is shown: all but the
+/// last are ordinary ones.
+fn way_of(entry: Entry, number: u32) -> (bool, Option<(i32, i32)>)
+    requires { number < entry.steps }
+    ensures { move_of entry.context result.0 result.1
+        ≡ (if number + 1 == entry.steps then last_move entry else plain_move entry.context) }
+{
+    if number + 1 == entry.steps {
+        (entry.refused, entry.shown)
+    } else {
+        (false, None)
+    }
+}
+
+/// Why a step isn't made.
+fn fault_of<M: Memory>(runtime: &mut Runtime<M>) -> WalkFault {
+    let used = runtime.memory.used();
+    if runtime.memory.size() - used < MOST_ASKED {
+        WalkFault::TooLarge
+    } else {
+        WalkFault::Memory
+    }
+}
