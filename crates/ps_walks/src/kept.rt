@@ -6,7 +6,7 @@ ghost use Rattle.ps_walks.specs.Walks.{IsBefore, Stands};
 
 use crate::before::Before;
 use crate::errors::{command_of, error_of};
-use crate::raised::{Map, Raised, trail_of};
+use crate::raised::{Map, Raised, RaisedAt, trail_of};
 use crate::seats::Seats;
 use crate::stops::has_stopped;
 use crate::taken::Taken;
@@ -51,6 +51,12 @@ impl<'a> Kept<'a> {
     /// What was told.
     pub(crate) fn into_told(self) -> Vec<u8> {
         self.told
+    }
+
+    /// Where a context raised its last error.
+    pub(crate) fn raised_at(&self, context: u32) -> Option<RaisedAt> {
+        let raised = self.seats.raised(context)?;
+        Some(raised.at())
     }
 
     /// Counts so many steps.

@@ -24,4 +24,5 @@ mod taken;
 mod telling;
 mod walks;
 
-pub use walks::{Rerun, WalkFault, places_of};
+pub use raised::RaisedAt;
+pub use walks::{Rerun, WalkFault, places_of, raised_at};

@@ -1,7 +1,15 @@
 //! An error that a context raised, and what had called what failed.
 
-ghost use Rattle.std.specs.Prelude.{◌≡◌};
-ghost use Rattle.ps_walks.specs.Walks.{Stands};
+ghost use Rattle.std.specs.Prelude.{◌≡◌, ◌++◌, ◌∷◌, [], IfOk, OnOk, option_map};
+ghost use Rattle.std.specs.Option.{option_and_then};
+ghost use Rattle.ps_mem.specs.Meaning.{value_of};
+ghost use Rattle.ps_ctx_readers.specs.Names.{procedure_name};
+ghost use Rattle.ps_language.specs.World.{World as TheWorld};
+ghost use Rattle.ps_mem.specs.Heap.{birth_at};
+ghost use Rattle.ps_ctx_table.specs.Desks.{IsWorld};
+ghost use Rattle.ps_walks.specs.Places as places;
+ghost use Rattle.ps_walks.specs.Places.{are_meant, meant};
+ghost use Rattle.ps_walks.specs.Walks.{Stands, desk_in};
 
 use crate::taken::{Taken, last_of};
 use ps_ctx::worlds::World;
@@ -14,13 +22,11 @@ use ps_places::Origins;
 use ps_word::words::Word;
 use std::alloc::{AllocError, Global};
 
-/// A place in the program, the name of the procedure that it is in, where that has one, and how
-/// often it stands there, one call behind another.
+/// A place in the program, and the name of the procedure that it is in, where that has one.
 #[derive(Clone, Copy, Debug, PartialEq, Eq)]
 pub(crate) struct Place {
     pub(crate) begin: usize,
     pub(crate) procedure: Option<Word>,
-    pub(crate) times: usize,
 }
 
 /// An error as it was raised.
@@ -33,6 +39,28 @@ pub(crate) struct Raised {
     pub(crate) command: Option<Vec<u8>>,
     /// Where it was raised, and then each that had called what is before it.
     pub(crate) trail: Vec<Place>,
+}
+
+impl Raised {
+    /// The place of the step that raised it.
+    pub(crate) fn at(&self) -> RaisedAt {
+        RaisedAt {
+            step: self.step,
+            begin: match self.trail.as_slice().first() {
+                Some(place) => Some(place.begin),
+                None => None,
+            },
+        }
+    }
+}
+
+/// Where an error was raised.
+#[derive(Clone, Copy, Debug, PartialEq, Eq)]
+pub struct RaisedAt {
+    /// The number of the step in the run's schedule, from 1.
+    pub step: u64,
+    /// Where what raised it begins in the program; nothing where that doesn't stand there.
+    pub begin: Option<usize>,
 }
 
 /// A context, the table of origins, the program, and where the last token begins that was taken from it.
@@ -57,28 +85,103 @@ pub(crate) fn trail_of<M: Memory>(
     ensures heap { M.heap runtime.new.memory ≡ M.heap runtime.old.memory }
     ensures grants { M.grants runtime.new.memory ≡ M.grants runtime.old.memory }
     ensures shared { runtime.new.shared ≡ runtime.old.shared }
+    ensures trail { IfOk result (λ trail. (w : TheWorld)
+        → IsWorld (desk_in M.heap M.grants runtime.old world.now) w
+        → are_meant (birth_at (M.heap runtime.old.memory)) runtime.old.shared.names trail.items
+        ≡ places.trail_of map.entry w taken) }
 {
     let mut trail = Vec::new(alloc);
-    if let Some(place) = place_of(taken, map, world, runtime) {
-        trail.push(place)?;
-    }
+    push_call(&mut trail, taken, map, world, runtime)?;
     for depth in 0..usize::MAX {
         let Some(frame) = frame_at(&world.contexts, map.context, depth, runtime) else {
             return Ok(trail);
         };
         let last = last_of(frame, map.token);
-        if depth > 0 || !is_same(taken, last) {
-            if let Some(place) = place_of(last, map, world, runtime) {
-                push_place(&mut trail, place)?;
-            }
-        }
+        let caller = if depth == 0 {
+            caller_of(taken, last)
+        } else {
+            last
+        };
+        push_call(&mut trail, caller, map, world, runtime)?;
     }
-    Ok(trail)
+    // No memory has so many frames.
+    Err(AllocError)
 }
 
-/// Whether the topmost frame is that of the element or token that was taken.
-fn is_same(taken: Taken, last: Taken) -> bool {
-    taken == last && taken != Taken::Nothing
+/// What the topmost frame took last, unless it is what was taken.
+fn caller_of(taken: Taken, last: Taken) -> Taken
+    ensures { result ≡ places.caller_of taken last }
+{
+    if is_same(taken, last) {
+        Taken::Nothing
+    } else {
+        last
+    }
+}
+
+/// Whether one is the very element, token or string that the other is.
+fn is_same(taken: Taken, last: Taken) -> bool
+    ensures { result ≡ places.is_same taken last }
+{
+    match (taken, last) {
+        (Taken::Token(begin), Taken::Token(other)) => begin == other,
+        (Taken::Text(birth), Taken::Text(other)) => birth == other,
+        (
+            Taken::Element { birth, index },
+            Taken::Element {
+                birth: other,
+                index: place,
+            },
+        ) => birth == other && index == place,
+        _ => false,
+    }
+}
+
+/// Pushes the place of what a context took behind others, if that stands in the program.
+#[tactic(auto, unfolding(crate::specs::Places::calls_of))]
+fn push_call<M: Memory>(
+    trail: &mut Vec<Place>,
+    taken: Taken,
+    map: Map<'_>,
+    world: &World,
+    runtime: &mut Runtime<M>,
+) -> Result<(), AllocError>
+    requires stands { Stands M.heap M.grants runtime.old world.now }
+    ensures heap { M.heap runtime.new.memory ≡ M.heap runtime.old.memory }
+    ensures grants { M.grants runtime.new.memory ≡ M.grants runtime.old.memory }
+    ensures shared { runtime.new.shared ≡ runtime.old.shared }
+    ensures pushed { OnOk result ((w : TheWorld)
+        → IsWorld (desk_in M.heap M.grants runtime.old world.now) w
+        → are_meant (birth_at (M.heap runtime.old.memory)) runtime.old.shared.names trail.new.items
+        ≡ are_meant (birth_at (M.heap runtime.old.memory)) runtime.old.shared.names trail.old.items
+        ++ places.calls_of map.entry w (taken ∷ [])) }
+{
+    if let Some(place) = place_of(taken, map, world, runtime) {
+        trail.push(place)?;
+    }
+    Ok(())
+}
+
+/// The name of the procedure that something is an element of, where it is one's and that has a name.
+fn procedure_of<M: Memory>(
+    taken: Taken,
+    map: Map<'_>,
+    world: &World,
+    runtime: &mut Runtime<M>,
+) -> Option<Word>
+    requires stands { Stands M.heap M.grants runtime.old world.now }
+    ensures heap { M.heap runtime.new.memory ≡ M.heap runtime.old.memory }
+    ensures grants { M.grants runtime.new.memory ≡ M.grants runtime.old.memory }
+    ensures shared { runtime.new.shared ≡ runtime.old.shared }
+    ensures name { (w : TheWorld)
+        → IsWorld (desk_in M.heap M.grants runtime.old world.now) w → option_map
+        (value_of (birth_at (M.heap runtime.old.memory)) runtime.old.shared.names) result
+        ≡ option_and_then (procedure_name w map.entry.context) (places.procedure_of taken) }
+{
+    match taken.procedure() {
+        Some(birth) => procedure_name_at(&world.contexts, map.context, birth, runtime),
+        None => None,
+    }
 }
 
 /// Where something stands that a context took, if it stands in the program.
@@ -92,33 +195,12 @@ fn place_of<M: Memory>(
     ensures heap { M.heap runtime.new.memory ≡ M.heap runtime.old.memory }
     ensures grants { M.grants runtime.new.memory ≡ M.grants runtime.old.memory }
     ensures shared { runtime.new.shared ≡ runtime.old.shared }
+    ensures place { (w : TheWorld)
+        → IsWorld (desk_in M.heap M.grants runtime.old world.now) w
+        → option_map (meant (birth_at (M.heap runtime.old.memory)) runtime.old.shared.names) result
+        ≡ places.call_of map.entry w taken }
 {
     let begin = taken.place(map.program, map.origins)?;
-    let procedure = match taken.procedure() {
-        Some(birth) => procedure_name_at(&world.contexts, map.context, birth, runtime),
-        None => None,
-    };
-    Some(Place {
-        begin,
-        procedure,
-        times: 1,
-    })
-}
-
-/// Pushes a place behind the others; one that equals the last, behind the first, is counted with
-/// it.
-fn push_place(trail: &mut Vec<Place>, place: Place) -> Result<(), AllocError> {
-    let count = trail.len();
-    if count > 1 {
-        let last = &mut trail[count - 1];
-        if last.begin == place.begin
-            && last.procedure == place.procedure
-            && last.times < usize::MAX
-        {
-            last.times += 1;
-            return Ok(());
-        }
-    }
-    trail.push(place)?;
-    Ok(())
+    let procedure = procedure_of(taken, map, world, runtime);
+    Some(Place { begin, procedure })
 }

@@ -1,6 +1,6 @@
 //! The text of the place of an error.
 
-use crate::raised::Raised;
+use crate::raised::{Place, Raised};
 use ps_names::{NameId, Names};
 use ps_places::position_of;
 use ps_views::{Caller, ErrorPlace, append_place, spot_at};
@@ -21,6 +21,40 @@ pub(crate) struct NamedProgram<'t> {
     pub(crate) names: &'t Names,
 }
 
+/// What these places are told as: one for those that are equal, one behind another.
+fn callers_of<'s>(
+    alloc: Global,
+    places: &[Place],
+    source: NamedProgram<'s>,
+) -> Result<Vec<Caller<'s>>, AllocError> {
+    let mut callers: Vec<Caller<'s>> = Vec::new(alloc);
+    let mut last: Option<Place> = None;
+    for place in places {
+        let again = match last {
+            Some(before) => before == *place,
+            None => false,
+        };
+        if again {
+            count_again(&mut callers);
+        } else {
+            callers.push(Caller {
+                position: position_of(source.program, place.begin),
+                procedure: text_of(place.procedure, source.names),
+                times: 1,
+            })?;
+        }
+        last = Some(*place);
+    }
+    Ok(callers)
+}
+
+/// Counts the last caller once more.
+fn count_again(callers: &mut Vec<Caller<'_>>) {
+    if let Some(caller) = callers.last_mut() {
+        caller.times = caller.times.saturating_add(1);
+    }
+}
+
 /// Appends the text of the place of an error of a context.
 pub(crate) fn append_raised(
     alloc: Global,
@@ -32,20 +66,17 @@ pub(crate) fn append_raised(
     let Some(error) = raised.error else {
         return Ok(());
     };
-    let mut callers: Vec<Caller<'_>> = Vec::new(alloc);
-    let mut spot = None;
-    for place in raised.trail.as_slice() {
-        if spot.is_none() {
+    let (spot, behind) = match raised.trail.as_slice().split_first() {
+        Some((place, behind)) => {
             let procedure = text_of(place.procedure, source.names);
-            spot = Some(spot_at(source.program, place.begin, procedure));
-        } else {
-            callers.push(Caller {
-                position: position_of(source.program, place.begin),
-                procedure: text_of(place.procedure, source.names),
-                times: place.times,
-            })?;
+            (
+                Some(spot_at(source.program, place.begin, procedure)),
+                behind,
+            )
         }
-    }
+        None => (None, raised.trail.as_slice()),
+    };
+    let callers = callers_of(alloc, behind, source)?;
     let place = ErrorPlace {
         file: source.file,
         error,

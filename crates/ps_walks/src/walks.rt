@@ -11,6 +11,7 @@ ghost use Rattle.ps_walks.specs.Walks.{Stands, desk_in, walked, walked_all};
 
 use crate::before::known_of;
 use crate::kept::Kept;
+use crate::raised::RaisedAt;
 use ps_ctx::deeds::Deeds;
 use ps_ctx::makers::Makers;
 use ps_ctx::starts::start_world;
@@ -66,6 +67,28 @@ pub fn places_of<S: Interpret + Drop, D: Deeds + Drop>(
     run: Rerun<'_, S, D>,
     schedule: Entries<'_>,
 ) -> Result<Vec<u8>, WalkFault> {
+    let kept = make_walk(alloc, run, schedule)?;
+    Ok(kept.into_told())
+}
+
+/// Where a context raised its last error under the steps of a schedule, also one that was caught.
+/// Nothing where it raised none, or isn't left behind them. The faults are those of `places_of`.
+pub fn raised_at<S: Interpret + Drop, D: Deeds + Drop>(
+    alloc: Global,
+    run: Rerun<'_, S, D>,
+    schedule: Entries<'_>,
+    context: u32,
+) -> Result<Option<RaisedAt>, WalkFault> {
+    let kept = make_walk(alloc, run, schedule)?;
+    Ok(kept.raised_at(context))
+}
+
+/// What is kept behind the steps of a schedule.
+fn make_walk<'a, S: Interpret + Drop, D: Deeds + Drop>(
+    alloc: Global,
+    run: Rerun<'a, S, D>,
+    schedule: Entries<'_>,
+) -> Result<Kept<'a>, WalkFault> {
     let Rerun {
         makers,
         program,
@@ -84,7 +107,7 @@ pub fn places_of<S: Interpret + Drop, D: Deeds + Drop>(
     };
     walk.follow_all(alloc, schedule)?;
     let Walk { kept, .. } = walk;
-    Ok(kept.into_told())
+    Ok(kept)
 }
 
 impl<M: Memory + Drop, S: Interpret + Drop, D: Deeds + Drop> Walk<'_, M, S, D> {
