@@ -193,6 +193,115 @@ static void codes(void) {
     count(standing == 0, "a block stands behind close");
 }
 
+/* What a call told of a value, in a room of 16 bytes, of which it knew `known`; before it value and room were the untouched ones. */
+struct found {
+    uint32_t code;
+    tallowmarch_value value;
+    uint8_t room[16];
+};
+
+static const struct found untouched = {0, {77, 78, 79, 80}, {9, 9, 9, 9, 9, 9, 9, 9, 9, 9, 9, 9, 9, 9, 9, 9}};
+
+static struct found operand(tallowmarch_standing *run, uint32_t context, size_t depth, size_t known) {
+    struct found found = untouched;
+    found.code = tallowmarch_operand(run, context, depth, &found.value, found.room, known);
+    return found;
+}
+
+static struct found definition(tallowmarch_standing *run, uint32_t context, const char *name) {
+    struct found found = untouched;
+    found.code = tallowmarch_definition(run, context, (const uint8_t *)name, strlen(name), &found.value, found.room, 16);
+    return found;
+}
+
+static struct found error_name(tallowmarch_standing *run, uint32_t context) {
+    struct found found = untouched;
+    found.code = tallowmarch_error_name(run, context, &found.value, found.room, 16);
+    return found;
+}
+
+static struct found error_command(tallowmarch_standing *run, uint32_t context) {
+    struct found found = untouched;
+    found.code = tallowmarch_error_command(run, context, &found.value, found.room, 16);
+    return found;
+}
+
+/* Whether this code was told, and nothing was written. */
+static int is_untold(struct found found, uint32_t code) {
+    return found.code == code && !memcmp(&found.value, &untouched.value, sizeof found.value) && !memcmp(found.room, untouched.room, 16);
+}
+
+/* Whether it is of this kind, attribute, number and length, with these bytes, and the room behind them is as it was. */
+static int is_told(struct found found, tallowmarch_value value, const char *bytes) {
+    const size_t length = strlen(bytes);
+    return found.code == 0 && !memcmp(&found.value, &value, sizeof value) && !memcmp(found.room, bytes, length) &&
+           !memcmp(found.room + length, untouched.room, 16 - length);
+}
+
+/* An operand of each kind, and an error that leaves two more. */
+static const char valued[] = "/x -7 def /word (hello) def /proc { 1 2 } def\n"
+                             "true null mark /name /add load [1 2 3] { a } (string) userdict lock condition -2147483648 (string) 1 2 getinterval cvx 1 0 idiv";
+
+static const struct {
+    tallowmarch_value value;
+    const char *bytes;
+} topmost_first[] = {{{TALLOWMARCH_INTEGER, 0, 0, 0}, ""},         {{TALLOWMARCH_INTEGER, 0, 1, 0}, ""},  {{TALLOWMARCH_STRING, 1, 0, 2}, "tr"},
+                     {{TALLOWMARCH_INTEGER, 0, INT32_MIN, 0}, ""}, {{TALLOWMARCH_CONDITION, 0, 0, 0}, ""}, {{TALLOWMARCH_LOCK, 0, 0, 0}, ""},
+                     {{TALLOWMARCH_DICTIONARY, 0, 0, 3}, ""},      {{TALLOWMARCH_STRING, 0, 0, 6}, "string"}, {{TALLOWMARCH_ARRAY, 1, 0, 1}, ""},
+                     {{TALLOWMARCH_ARRAY, 0, 0, 3}, ""},           {{TALLOWMARCH_OPERATOR, 1, 0, 3}, "add"}, {{TALLOWMARCH_NAME, 0, 0, 4}, "name"},
+                     {{TALLOWMARCH_MARK, 0, 0, 0}, ""},            {{TALLOWMARCH_NULL, 0, 0, 0}, ""},     {{TALLOWMARCH_BOOLEAN, 0, 1, 0}, ""}};
+
+/* What a run that stands has: each kind of operand, definitions, the last error, and each code. Looking asks for no memory. */
+static void values(void) {
+    tallowmarch_standing run = TALLOWMARCH_STANDING;
+    const tallowmarch_value null = {TALLOWMARCH_NULL, 0, 0, 0};
+    count(is_untold(operand(&run, 1, 0, 16), TALLOWMARCH_CLOSED) && is_untold(definition(&run, 1, "x"), TALLOWMARCH_CLOSED), "a value of an empty handle");
+    count(is_untold(error_name(&run, 1), TALLOWMARCH_CLOSED) && is_untold(error_command(&run, 1), TALLOWMARCH_CLOSED), "an error of an empty handle");
+    count(start(&run, valued, small(10)) == 0, "a run that is looked at");
+    count(is_untold(operand(&run, 1, 0, 16), TALLOWMARCH_NO_VALUE) && is_untold(definition(&run, 1, "x"), TALLOWMARCH_NO_VALUE), "a value before the first step");
+    count(is_told(error_name(&run, 1), null, "") && is_told(error_command(&run, 1), null, ""), "an error before the first one");
+    count(tallowmarch_advance(&run, 1000) == TALLOWMARCH_FAULTED, "a run with an error");
+    asked = 0;
+    for (size_t at = 0; at < sizeof topmost_first / sizeof *topmost_first; at++)
+        count(is_told(operand(&run, 1, at, 16), topmost_first[at].value, topmost_first[at].bytes), "an operand");
+    count(is_untold(operand(&run, 1, 15, 16), TALLOWMARCH_NO_VALUE) && is_untold(operand(&run, 1, SIZE_MAX, 16), TALLOWMARCH_NO_VALUE), "no operand");
+    count(is_untold(operand(&run, 2, 0, 16), TALLOWMARCH_NO_CONTEXT) && is_untold(operand(&run, 0, 0, 16), TALLOWMARCH_NO_CONTEXT), "no context");
+    const struct found few = operand(&run, 1, 7, 5), full = operand(&run, 1, 7, 6);
+    count(few.code == TALLOWMARCH_SMALL_ROOM && few.value.length == 6 && !memcmp(few.room, untouched.room, 16), "a room that is too small");
+    count(is_told(full, topmost_first[7].value, "string"), "a room that is just large enough");
+    count(is_told(definition(&run, 1, "x"), (tallowmarch_value){TALLOWMARCH_INTEGER, 0, -7, 0}, ""), "a number that is defined");
+    count(is_told(definition(&run, 1, "word"), (tallowmarch_value){TALLOWMARCH_STRING, 0, 0, 5}, "hello"), "a string that is defined");
+    count(is_told(definition(&run, 1, "proc"), (tallowmarch_value){TALLOWMARCH_ARRAY, 1, 0, 2}, ""), "a procedure that is defined");
+    count(is_untold(definition(&run, 1, "nobody"), TALLOWMARCH_NO_VALUE) && is_untold(definition(&run, 1, ""), TALLOWMARCH_NO_VALUE), "a name that was not met");
+    count(is_untold(definition(&run, 1, "add"), TALLOWMARCH_NO_VALUE) && is_untold(definition(&run, 2, "x"), TALLOWMARCH_NO_CONTEXT), "no definition");
+    count(is_told(error_name(&run, 1), (tallowmarch_value){TALLOWMARCH_NAME, 0, 0, 15}, "undefinedresult"), "an error's name");
+    count(is_told(error_command(&run, 1), (tallowmarch_value){TALLOWMARCH_OPERATOR, 1, 0, 4}, "idiv"), "an error's command");
+    count(is_untold(error_name(&run, 3), TALLOWMARCH_NO_CONTEXT) && is_untold(error_command(&run, 3), TALLOWMARCH_NO_CONTEXT), "an error of no context");
+    count(asked == 0, "memory that looking asked for");
+    tallowmarch_close(&run);
+    count(is_untold(definition(&run, 1, "x"), TALLOWMARCH_CLOSED) && is_untold(operand(&run, 1, 0, 16), TALLOWMARCH_CLOSED), "a value behind close");
+}
+
+/* Values are told between two slices as they are, wherever the collector has moved them, and of the context that is asked for. */
+static void values_moved(void) {
+    tallowmarch_standing run = TALLOWMARCH_STANDING;
+    const char *text = "mark { (second) { 2 0 idiv } stopped pop pop pop $error /command undef { } loop } fork\n"
+                       "{ 99 string pop } loop";
+    tallowmarch_counts counts;
+    count(start(&run, text, small(3)) == 0, "a run whose objects are moved");
+    count(tallowmarch_advance(&run, 100) == TALLOWMARCH_STEPS_OUT, "steps of two contexts");
+    for (int at = 0; at < 300; at++) {
+        count(tallowmarch_advance(&run, 40) == TALLOWMARCH_STEPS_OUT, "a slice");
+        const struct found found = operand(&run, 2, 0, 16), error = error_name(&run, 2);
+        count(is_told(found, (tallowmarch_value){TALLOWMARCH_STRING, 0, 0, 6}, "second"), "an operand behind a slice");
+        count(is_told(error, (tallowmarch_value){TALLOWMARCH_NAME, 0, 0, 15}, "undefinedresult"), "an error that was caught");
+        count(is_untold(error_command(&run, 2), TALLOWMARCH_NO_VALUE), "what a program took out of its $error");
+        count(is_told(error_name(&run, 1), (tallowmarch_value){TALLOWMARCH_NULL, 0, 0, 0}, ""), "the error of another context");
+    }
+    count(tallowmarch_counts_of(&run, TALLOWMARCH_NUMBERS(counts)) == 0 && counts.flips > 0, "flips of a run that is looked at");
+    tallowmarch_close(&run);
+}
+
 static int stop;
 
 static void *stopping(void *of) {
@@ -304,6 +413,8 @@ int main(int words, char **word) {
         return of_files(words - 2, word + 2);
     }
     codes();
+    values();
+    values_moved();
     stops();
     slices();
     refusals();

@@ -34,7 +34,7 @@ extern "C" {
 #define TALLOWMARCH_VERSION 400
 
 /* What a call returns. Below 16 there was a run: its bytes, entries and counts are handed out. From 16 on there was none, and the rooms and
- * the counts are as they were. The codes of runs are the exit statuses of dpsrun.
+ * the counts are as they were. The codes of runs are the exit statuses of dpsrun. From 22 on a value of a run that stands wasn't told, or not all of it.
  */
 enum tallowmarch_code {
     TALLOWMARCH_FINISHED = 0,      /* each context finished, and no error was reported */
@@ -48,7 +48,10 @@ enum tallowmarch_code {
     TALLOWMARCH_OTHER_SCHEDULE = 18, /* the schedule to go on from isn't that of a run of this program by these settings */
     TALLOWMARCH_BAD_ENTRY = 19,    /* an entry of the given schedule is none: its context or its steps are 0, or it shows a pair below 1 */
     TALLOWMARCH_CLOSED = 20,       /* no run stands in the handle */
-    TALLOWMARCH_OPEN = 21          /* a run stands in the handle already */
+    TALLOWMARCH_OPEN = 21,         /* a run stands in the handle already */
+    TALLOWMARCH_NO_CONTEXT = 22,   /* no context has the identifier, or it is ended */
+    TALLOWMARCH_NO_VALUE = 23,     /* the context has no value there */
+    TALLOWMARCH_SMALL_ROOM = 24    /* the room has no place for all bytes of the value */
 };
 
 /* What a code says, in a few words that stand for ever: "a code of another version" where this header doesn't know it. */
@@ -65,6 +68,9 @@ static inline const char *tallowmarch_code_text(uint32_t code) {
     case TALLOWMARCH_BAD_ENTRY: return "an entry of the schedule is none";
     case TALLOWMARCH_CLOSED: return "no run stands in the handle";
     case TALLOWMARCH_OPEN: return "a run stands in the handle already";
+    case TALLOWMARCH_NO_CONTEXT: return "no context has this identifier";
+    case TALLOWMARCH_NO_VALUE: return "the context has no value there";
+    case TALLOWMARCH_SMALL_ROOM: return "the room has no place for the value's bytes";
     default: return "a code of another version";
     }
 }
@@ -223,6 +229,55 @@ size_t tallowmarch_entries(tallowmarch_standing *run, size_t from, tallowmarch_e
 
 /* Tells how much the run came to so far, and 0. TALLOWMARCH_CLOSED: no run stands, and nothing is written. */
 uint32_t tallowmarch_counts_of(tallowmarch_standing *run, uint64_t *counts, size_t counts_room);
+
+/* What a value is (PLRM2, 3.3.2). */
+enum tallowmarch_kind {
+    TALLOWMARCH_INTEGER = 1,
+    TALLOWMARCH_BOOLEAN = 2,
+    TALLOWMARCH_NULL = 3,
+    TALLOWMARCH_MARK = 4,
+    TALLOWMARCH_NAME = 5,
+    TALLOWMARCH_OPERATOR = 6,
+    TALLOWMARCH_ARRAY = 7, /* an executable one is a procedure */
+    TALLOWMARCH_STRING = 8,
+    TALLOWMARCH_DICTIONARY = 9,
+    TALLOWMARCH_LOCK = 10,
+    TALLOWMARCH_CONDITION = 11
+};
+
+/* A value. */
+typedef struct tallowmarch_value {
+    uint32_t kind;       /* an enum tallowmarch_kind */
+    uint32_t executable; /* 1 where it is executable, and else 0 */
+    int64_t number;      /* an integer; of a boolean 1 or 0; of any other value 0 */
+    uint64_t length;     /* the bytes of a string, of a name, or of an operator's name; the elements of an array; the pairs of a dictionary; of any
+                            other value 0 */
+} tallowmarch_value;
+
+/* Tells of an operand of a context of the run: of the topmost one at `depth` 0, and of one below so many others. Contexts count from 1, which is the
+ * one that the program begins in. The bytes of a string, of a name, or of an operator's name are written to the front of `room`, if it has place
+ * for all `length` of them; other values have none. A value may be looked at whatever its access.
+ *
+ * 0: the value is told, and its bytes are written. TALLOWMARCH_SMALL_ROOM: it is told, and the room stays as it was, since it has place for `count` bytes
+ * alone: call again with one for `length`. TALLOWMARCH_NO_CONTEXT: no context has the identifier, or it is ended. TALLOWMARCH_NO_VALUE: the context
+ * has no such operand. TALLOWMARCH_CLOSED: no run stands. In these three cases value and room stay as they were. The run stays in any case: what is
+ * told is what it has behind the last slice.
+ */
+uint32_t tallowmarch_operand(tallowmarch_standing *run, uint32_t context, size_t depth, tallowmarch_value *value, uint8_t *room, size_t count);
+
+/* Tells of what `userdict` has under a name of `length` bytes, where a program's definitions go unless it begins another dictionary. Codes and rooms are
+ * those of tallowmarch_operand: TALLOWMARCH_NO_VALUE where it has nothing under that name. All contexts share `userdict`, so any may be named that
+ * is left.
+ */
+uint32_t tallowmarch_definition(tallowmarch_standing *run, uint32_t context, const uint8_t *name, size_t length, tallowmarch_value *value, uint8_t *room,
+                                size_t count);
+
+/* Tell of the last error of a context, which its `$error` keeps also when it was caught, or the context is finished: of what stands there under
+ * `errorname`, the error's name, and under `command`, what raised it. Both are null before the first error. A program may change what stands there, so
+ * look at the kind. Codes and rooms are those of tallowmarch_operand.
+ */
+uint32_t tallowmarch_error_name(tallowmarch_standing *run, uint32_t context, tallowmarch_value *value, uint8_t *room, size_t count);
+uint32_t tallowmarch_error_command(tallowmarch_standing *run, uint32_t context, tallowmarch_value *value, uint8_t *room, size_t count);
 
 /* Gives all memory of the run back. No run stands then; where none stood nothing happens. */
 void tallowmarch_close(tallowmarch_standing *run);

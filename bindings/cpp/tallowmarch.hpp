@@ -7,6 +7,7 @@
 //
 //     tallowmarch::Standing script = tallowmarch::Run(text).start();
 //     while (script.advance(1000) == tallowmarch::Outcome::steps_out) std::cout << script.take();
+//     if (const auto error = script.error_name()) std::cout << error->bytes;
 //
 // Nothing is shared between calls: any number of threads may run programs at once. All memory is the objects' own, and goes with them. A call
 // blocks its thread until the program ended or its budget of steps is used up.
@@ -19,6 +20,7 @@
 #include <atomic>
 #include <cstddef>
 #include <cstdint>
+#include <optional>
 #include <random>
 #include <stdexcept>
 #include <string>
@@ -37,7 +39,7 @@ enum class Outcome {
 };
 
 // Why there is no run: `code` is TALLOWMARCH_OUT_OF_RANGE, TALLOWMARCH_NO_ROOM, TALLOWMARCH_OTHER_SCHEDULE, TALLOWMARCH_BAD_ENTRY or
-// TALLOWMARCH_CLOSED, and 0 where the library is of another version.
+// TALLOWMARCH_CLOSED, and 0 where the library is of another version. TALLOWMARCH_NO_CONTEXT: a context isn't there that is asked for a value.
 class Error : public std::runtime_error {
 public:
     explicit Error(std::uint32_t code)
@@ -60,6 +62,30 @@ struct Counts {
     std::uint64_t steps = 0;    // its steps
     std::uint64_t flips = 0;    // the collector's cycles
     std::uint64_t taken = 0;    // the stores that the collector had to follow
+};
+
+// What a value is.
+enum class Kind {
+    integer = TALLOWMARCH_INTEGER,
+    boolean = TALLOWMARCH_BOOLEAN,
+    null = TALLOWMARCH_NULL,
+    mark = TALLOWMARCH_MARK,
+    name = TALLOWMARCH_NAME,
+    operator_ = TALLOWMARCH_OPERATOR,
+    array = TALLOWMARCH_ARRAY,  // an executable one is a procedure
+    string = TALLOWMARCH_STRING,
+    dictionary = TALLOWMARCH_DICTIONARY,
+    lock = TALLOWMARCH_LOCK,
+    condition = TALLOWMARCH_CONDITION
+};
+
+// A value that a run has.
+struct Value {
+    Kind kind;
+    bool executable = false;
+    std::int64_t number = 0;   // an integer; of a boolean 1 or 0; of any other value 0
+    std::uint64_t length = 0;  // the bytes of a string, name or operator's name; the elements of an array; the pairs of a dictionary; else 0
+    std::string bytes;         // of a string, name or operator's name; else empty
 };
 
 // What a run came to.
@@ -186,6 +212,35 @@ public:
         return {counts.bytes, counts.entries, counts.steps, counts.flips, counts.taken};
     }
 
+    // The operand of a context below so many others; nothing where it has so few. Throws Error where no context has the identifier, and where no
+    // run stands, as the others do that tell values.
+    std::optional<Value> operand(std::size_t depth, std::uint32_t context = 1) {
+        return told([=](tallowmarch_value &value, std::uint8_t *room, std::size_t count) {
+            return tallowmarch_operand(&run_, context, depth, &value, room, count);
+        });
+    }
+
+    // What `userdict` has under a name, where a program's definitions go; nothing where it has none. All contexts share it.
+    std::optional<Value> definition(const std::string &name, std::uint32_t context = 1) {
+        return told([&](tallowmarch_value &value, std::uint8_t *room, std::size_t count) {
+            return tallowmarch_definition(&run_, context, detail::bytes_of(name), name.size(), &value, room, count);
+        });
+    }
+
+    // The name of the last error of a context, also of one that was caught, as its `$error` has it: null before the first one.
+    std::optional<Value> error_name(std::uint32_t context = 1) {
+        return told([=](tallowmarch_value &value, std::uint8_t *room, std::size_t count) {
+            return tallowmarch_error_name(&run_, context, &value, room, count);
+        });
+    }
+
+    // What raised it: null before the first one.
+    std::optional<Value> error_command(std::uint32_t context = 1) {
+        return told([=](tallowmarch_value &value, std::uint8_t *room, std::size_t count) {
+            return tallowmarch_error_command(&run_, context, &value, room, count);
+        });
+    }
+
     // Gives the run's memory back. Nothing stands then; a second call does nothing.
     void close() noexcept { tallowmarch_close(&run_); }
 
@@ -196,6 +251,20 @@ private:
         detail::fit();
         const std::uint32_t code = tallowmarch_start(detail::bytes_of(program), program.size(), TALLOWMARCH_NUMBERS(settings), &run_);
         if (code) throw Error(code);
+    }
+
+    // Calls with a room that is large enough for the value's bytes.
+    template <class Call> static std::optional<Value> told(Call call) {
+        tallowmarch_value value{};
+        std::string bytes(128, '\0');
+        for (;;) {
+            const std::uint32_t code = call(value, reinterpret_cast<std::uint8_t *>(bytes.data()), bytes.size());
+            if (code == TALLOWMARCH_NO_VALUE) return std::nullopt;
+            if (code != 0 && code != TALLOWMARCH_SMALL_ROOM) throw Error(code);
+            const bool has_bytes = value.kind == TALLOWMARCH_STRING || value.kind == TALLOWMARCH_NAME || value.kind == TALLOWMARCH_OPERATOR;
+            bytes.resize(has_bytes ? value.length : 0);
+            if (code == 0) return Value{static_cast<Kind>(value.kind), value.executable != 0, value.number, value.length, std::move(bytes)};
+        }
     }
 
     // Somewhere to point to.

@@ -96,6 +96,18 @@ int main() {
     first.close();
     count(refused([&] { first.advance(1); }, TALLOWMARCH_CLOSED) && refused([&] { first.counts(); }, TALLOWMARCH_CLOSED) && first.take().empty() &&
               first.entries().empty(), "a run that was closed");
+    auto looked = Run("/x 5 def /long 300 string def (text) {} 1 0 idiv").space(4096).start();
+    using tallowmarch::Kind;
+    count(!looked.operand(0) && !looked.definition("x") && looked.error_name()->kind == Kind::null, "values before the first step");
+    looked.advance(1000);
+    const auto x = looked.definition("x"), text = looked.operand(3), body = looked.operand(2), raised = looked.error_name(), by = looked.error_command();
+    count(x && x->kind == Kind::integer && x->number == 5 && x->bytes.empty() && !looked.definition("y"), "definitions");
+    count(text && text->kind == Kind::string && text->bytes == "text" && body && body->kind == Kind::array && body->executable, "operands");
+    count(looked.definition("long")->bytes == std::string(300, '\0') && !looked.operand(4), "a string beyond the first room");
+    count(raised && raised->kind == Kind::name && raised->bytes == "undefinedresult" && by && by->kind == Kind::operator_ && by->bytes == "idiv", "an error");
+    count(refused([&] { looked.operand(0, 2); }, TALLOWMARCH_NO_CONTEXT), "a context that isn't there");
+    looked.close();
+    count(refused([&] { looked.definition("x"); }, TALLOWMARCH_CLOSED) && refused([&] { looked.error_name(); }, TALLOWMARCH_CLOSED), "values behind close");
     std::atomic<bool> stop{false};
     auto endless = Run("{} loop").start();
     count(endless.advance_until(1000, 300, stop) == Outcome::steps_out && endless.counts().steps == 1000, "slices until steps are made");

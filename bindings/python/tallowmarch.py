@@ -64,6 +64,34 @@ class BadEntry(Error, ValueError):
     """An entry of the given schedule is none: its context or its steps are 0, or it shows a pair below 1."""
 
 
+class NoContext(Error, LookupError):
+    """No context has this identifier, or it is ended."""
+
+
+class Kind(enum.Enum):
+    """What a value is."""
+    INTEGER = 1
+    BOOLEAN = 2
+    NULL = 3
+    MARK = 4
+    NAME = 5
+    OPERATOR = 6
+    ARRAY = 7  #: an executable one is a procedure
+    STRING = 8
+    DICTIONARY = 9
+    LOCK = 10
+    CONDITION = 11
+
+
+class Value(typing.NamedTuple):
+    """A value that a run has."""
+    kind: Kind  #: what it is
+    executable: bool = False  #: its attribute
+    number: int = 0  #: an integer; of a boolean 1 or 0; else 0
+    length: int = 0  #: the bytes of a string, name or operator's name; the elements of an array; the pairs of a dictionary; else 0
+    bytes: bytes = b''  #: of a string, name or operator's name; else none
+
+
 class Entry(typing.NamedTuple):
     """Neighbouring steps of one context in a schedule."""
     context: int  #: the context's identifier, from 1
@@ -112,6 +140,10 @@ class _Standing(ctypes.Structure):
     _fields_ = [('at', ctypes.c_void_p), ('full', ctypes.c_uint32)]
 
 
+class _Value(ctypes.Structure):
+    _fields_ = [('kind', ctypes.c_uint32), ('executable', ctypes.c_uint32), ('number', ctypes.c_int64), ('length', ctypes.c_uint64)]
+
+
 def _fits(version):
     """Whether a library of a version is one for this module: of the same first number, and behind a first one of 0 of the same second one."""
     return version // 10000 == VERSION // 10000 and (version >= 10000 or version // 100 == VERSION // 100)
@@ -139,9 +171,12 @@ def _load():
     library.tallowmarch_run.argtypes = [*asked, *rooms]
     library.tallowmarch_go_on.argtypes = library.tallowmarch_replay.argtypes = [*asked, *given, *rooms]
     handle, u32 = pointer(_Standing), ctypes.c_uint32
+    told = [pointer(_Value), pointer(ctypes.c_char), size]
     for name, gives, takes in (('start', u32, [*asked, handle]), ('advance', u32, [handle, u32]),
                                ('printed', size, [handle, size, pointer(ctypes.c_char), size]), ('entries', size, [handle, size, pointer(_Entry), size]),
-                               ('counts_of', u32, [handle, ctypes.c_void_p, size]), ('close', None, [handle])):
+                               ('counts_of', u32, [handle, ctypes.c_void_p, size]), ('close', None, [handle]),
+                               ('operand', u32, [handle, u32, size, *told]), ('definition', u32, [handle, u32, bytes_of, size, *told]),
+                               ('error_name', u32, [handle, u32, *told]), ('error_command', u32, [handle, u32, *told])):
         function = getattr(library, f'tallowmarch_{name}')
         function.restype, function.argtypes = gives, takes
     return library
@@ -150,7 +185,7 @@ def _load():
 _LIBRARY = _load()
 _ERRORS = {16: OutOfRange('a number of the settings is out of its range'), 17: NoRoom('out of memory'),
            18: OtherSchedule('the schedule is not that of a run by these settings'), 19: BadEntry('an entry of the schedule is none'),
-           20: Closed('no run stands')}
+           20: Closed('no run stands'), 22: NoContext('no context has this identifier')}
 
 
 def _unless_error(code):
@@ -174,6 +209,21 @@ def _with_rooms(rooms, call):
             made = tuple(_entry_of(it) for it in schedule[:counts.entries])
             return Report(printed.raw[:counts.bytes], made, Outcome(code), counts.steps, counts.flips, counts.taken)
         most_bytes, most_entries = max(most_bytes, counts.bytes), max(most_entries, counts.entries)
+
+
+def _value(call):
+    """What a call tells of a value, with a room that is large enough for its bytes; None where there is none."""
+    value, count = _Value(), 128
+    while True:
+        room = ctypes.create_string_buffer(count)
+        code = _unless_error(call(value, room, count))
+        if code == 23:
+            return None
+        if code == 0:
+            kind = Kind(value.kind)
+            has_bytes = kind in (Kind.STRING, Kind.NAME, Kind.OPERATOR)
+            return Value(kind, value.executable != 0, value.number, value.length, room.raw[:value.length] if has_bytes else b'')
+        count = value.length
 
 
 def _keys(given):
@@ -334,6 +384,53 @@ class Standing:
         counts = _Counts()
         _unless_error(_LIBRARY.tallowmarch_counts_of(self._run, *_numbers(counts)))
         return Counts(*(getattr(counts, it) for it in Counts._fields))
+
+    def operand(self, depth: int = 0, context: int = 1) -> typing.Optional[Value]:
+        """The operand of a context below so many others; None where it has so few. Contexts count from 1, which is the one that the program begins in.
+        Raises NoContext where none has the identifier, and Closed, as the others do that tell values.
+
+        >>> with Standing(b'(text) {dup mul} 7') as script:
+        ...     script.advance(1000) and [script.operand(it) for it in range(4)]
+        ... # doctest: +NORMALIZE_WHITESPACE
+        [Value(kind=<Kind.INTEGER: 1>, executable=False, number=7, length=0, bytes=b''),
+         Value(kind=<Kind.ARRAY: 7>, executable=True, number=0, length=2, bytes=b''),
+         Value(kind=<Kind.STRING: 8>, executable=False, number=0, length=4, bytes=b'text'), None]
+        """
+        _within(context=context)
+        if not 0 <= depth < 2 ** 63:
+            raise OutOfRange('depth is out of its range')
+        return _value(lambda *told: _LIBRARY.tallowmarch_operand(self._run, context, depth, *told))
+
+    def definition(self, name: bytes, context: int = 1) -> typing.Optional[Value]:
+        """What userdict has under a name, where a program's definitions go unless it begins another dictionary; None where it has none. All
+        contexts share it, so any may be named that is left.
+
+        >>> with Standing(b'/x 5 def /long 300 string def') as script:
+        ...     script.definition(b'x'), script.advance(1000), script.definition(b'x').number, script.definition(b'long').length
+        (None, <Outcome.FINISHED: 0>, 5, 300)
+        """
+        name = bytes(name)
+        _within(context=context)
+        return _value(lambda *told: _LIBRARY.tallowmarch_definition(self._run, context, name, len(name), *told))
+
+    def error_name(self, context: int = 1) -> typing.Optional[Value]:
+        """The name of the last error of a context, also of one that was caught, as its $error has it: null before the first one.
+
+        >>> with Standing(b'1 0 idiv') as script:
+        ...     script.error_name().kind, script.advance(1000), script.error_name().bytes, script.error_command().bytes
+        (<Kind.NULL: 3>, <Outcome.FAULTED: 1>, b'undefinedresult', b'idiv')
+        >>> with Standing(b'') as script:
+        ...     script.error_name(context=2)
+        Traceback (most recent call last):
+        tallowmarch.NoContext: no context has this identifier
+        """
+        _within(context=context)
+        return _value(lambda *told: _LIBRARY.tallowmarch_error_name(self._run, context, *told))
+
+    def error_command(self, context: int = 1) -> typing.Optional[Value]:
+        """What raised the last error of a context: null before the first one."""
+        _within(context=context)
+        return _value(lambda *told: _LIBRARY.tallowmarch_error_command(self._run, context, *told))
 
     def close(self) -> None:
         """Gives the run's memory back; a second call does nothing."""

@@ -32,8 +32,10 @@ use std::hash::{BuildHasher, Hasher, RandomState};
 
 mod raw;
 mod standing;
+mod values;
 
 pub use standing::{Counts, Slice, Slices, Standing};
+pub use values::{Value, What};
 
 /// A program with the settings of its run. See [`Run::new`].
 #[derive(Clone, Debug)]
@@ -260,7 +262,7 @@ pub enum Outcome {
     Memory,
 }
 
-/// Why there is no run.
+/// Why there is no run, or nothing is told of it.
 #[derive(Clone, Copy, Debug, PartialEq, Eq, Hash)]
 pub enum Error {
     /// A number of the settings is out of its range.
@@ -271,6 +273,8 @@ pub enum Error {
     OtherSchedule,
     /// An entry of the given schedule is none: its context or its steps are 0, or it shows a pair below 1.
     BadEntry,
+    /// No context has this identifier, or it is ended.
+    NoContext,
     /// The library is of another version than this crate.
     Version,
 }
@@ -282,6 +286,7 @@ impl fmt::Display for Error {
             Error::NoRoom => "out of memory",
             Error::OtherSchedule => "the schedule is not that of a run by these settings",
             Error::BadEntry => "an entry of the schedule is none",
+            Error::NoContext => "no context has this identifier",
             Error::Version => "libtallowmarch is of another version",
         })
     }

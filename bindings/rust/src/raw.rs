@@ -88,6 +88,24 @@ impl Counts {
     }
 }
 
+#[repr(C)]
+#[derive(Clone, Copy, Default)]
+pub(crate) struct Value {
+    pub(crate) kind: u32,
+    pub(crate) executable: u32,
+    pub(crate) number: i64,
+    pub(crate) length: u64,
+}
+
+/// Where a run has a value.
+#[derive(Clone, Copy)]
+pub(crate) enum Place<'a> {
+    Operand(usize),
+    Definition(&'a [u8]),
+    ErrorName,
+    ErrorCommand,
+}
+
 /// Whether a library of a version is one for these types: of the same first number, and behind a first one of 0 of the same second one.
 fn fits(version: u32) -> bool {
     version / 10_000 == VERSION / 10_000 && (version >= 10_000 || version / 100 == VERSION / 100)
@@ -143,6 +161,10 @@ extern "C" {
     fn tallowmarch_printed(run: *mut Handle, from: usize, room: *mut u8, count: usize) -> usize;
     fn tallowmarch_entries(run: *mut Handle, from: usize, room: *mut Entry, count: usize) -> usize;
     fn tallowmarch_counts_of(run: *mut Handle, counts: *mut u64, counts_room: usize) -> u32;
+    fn tallowmarch_operand(run: *mut Handle, context: u32, depth: usize, value: *mut Value, room: *mut u8, count: usize) -> u32;
+    fn tallowmarch_definition(run: *mut Handle, context: u32, name: *const u8, length: usize, value: *mut Value, room: *mut u8, count: usize) -> u32;
+    fn tallowmarch_error_name(run: *mut Handle, context: u32, value: *mut Value, room: *mut u8, count: usize) -> u32;
+    fn tallowmarch_error_command(run: *mut Handle, context: u32, value: *mut Value, room: *mut u8, count: usize) -> u32;
     fn tallowmarch_close(run: *mut Handle);
 }
 
@@ -201,6 +223,36 @@ impl Handle {
         // SAFETY: as in `advance`; the numbers are of a reference. A run stands, so the code is 0.
         unsafe { tallowmarch_counts_of(self, counts.numbers(), Counts::KNOWN) };
         counts
+    }
+}
+
+impl Handle {
+    /// What a context has at a place, with the bytes that it has, if any; nothing where it has no value there.
+    pub(crate) fn value(&mut self, context: u32, place: Place<'_>) -> Result<Option<(Value, Vec<u8>)>, Error> {
+        let (mut value, mut room) = (Value::default(), vec![0; 128]);
+        loop {
+            let (at, count) = (room.as_mut_ptr(), room.len());
+            // SAFETY: as in `advance`; the value and the room are borrowed alone, and a name is a slice.
+            let code = unsafe {
+                match place {
+                    Place::Operand(depth) => tallowmarch_operand(self, context, depth, &mut value, at, count),
+                    Place::Definition(name) => tallowmarch_definition(self, context, name.as_ptr(), name.len(), &mut value, at, count),
+                    Place::ErrorName => tallowmarch_error_name(self, context, &mut value, at, count),
+                    Place::ErrorCommand => tallowmarch_error_command(self, context, &mut value, at, count),
+                }
+            };
+            match code {
+                // A value's bytes were in the process's memory.
+                0 => {
+                    room.truncate(value.length as usize);
+                    return Ok(Some((value, room)));
+                }
+                22 => return Err(Error::NoContext),
+                23 => return Ok(None),
+                24 => room.resize(value.length as usize, 0),
+                _ => return Err(Error::Version),
+            }
+        }
     }
 }
 

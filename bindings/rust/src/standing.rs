@@ -21,7 +21,7 @@ use crate::{raw, Error, Outcome, Schedule};
 /// ```
 #[derive(Debug)]
 pub struct Standing {
-    handle: raw::Handle,
+    pub(crate) handle: raw::Handle,
     /// How many of the printed bytes were taken.
     taken: usize,
 }

@@ -1,3 +1,4 @@
 pub mod Naming
 pub mod Standing
 pub mod There
+pub mod Valued

@@ -1,3 +1,4 @@
 pub mod Errors
 pub mod Frames
 pub mod Names
+pub mod Values

@@ -1,20 +1,26 @@
 //! What is read of the contexts of a world, by their identifiers.
 
-ghost use Rattle.std.specs.Prelude.{◌≡◌, ℕ, IfSome, option_and_then, option_map};
+ghost use Rattle.std.specs.Prelude.{◌≡◌, ℕ, IfOk, IfSome, option_and_then, option_map};
+ghost use Rattle.std.specs.Result.{result_map_both};
+ghost use Rattle.ps_language.specs.Contexts.{context_at};
 ghost use Rattle.ps_language.specs.World.{World};
 ghost use Rattle.ps_mem.specs.Heap.{birth_at};
 ghost use Rattle.ps_mem.specs.Meaning.{value_of};
-ghost use Rattle.ps_mem.specs.Shows.{IsValue};
+ghost use Rattle.ps_mem.specs.Shows.{IsValue, IsWithin};
 ghost use Rattle.ps_ctx_table.specs.Desks.{IsSteady, IsWorld};
 ghost use Rattle.ps_ctx_table.specs.Worlds.{status_of};
 ghost use Rattle.ps_ctx.specs.Calls.{over_of};
 ghost use Rattle.ps_ctx_readers.specs.Errors as errors;
 ghost use Rattle.ps_ctx_readers.specs.Frames as frames;
 ghost use Rattle.ps_ctx_readers.specs.Names as names;
+ghost use Rattle.ps_ctx_readers.specs.Values as values;
+ghost use Rattle.ps_ctx_readers.specs.Values.{HasLowest, IsTold};
 
 use crate::errors::{LastError, last_error};
 use crate::frames::{FrameView, view_below};
 use crate::names::procedure_name;
+use crate::values::{tell_value, word_in};
+use crate::views::{Place, ToldValue, Untold};
 use ps_ctx_table::contexts::Contexts;
 use ps_ctx_table::members::Course;
 use ps_mem::Memory;
@@ -107,4 +113,61 @@ pub fn procedure_name_at<M: Memory>(
         return None;
     };
     procedure_name(&member.context.dictionaries, birth, &mut runtime.memory)
+}
+
+/// What a context has at a place. The memory is only read.
+///
+/// `NoContext`: none has this identifier, or it is ended. `NoValue`: the context has no value there.
+fn word_at<M: Memory>(
+    contexts: &Contexts,
+    identifier: u32,
+    place: Place<'_>,
+    runtime: &mut Runtime<M>,
+) -> Result<Word, Untold>
+    requires steady { IsSteady (over_of M.heap M.grants runtime.old contexts.now) }
+    ensures heap { M.heap runtime.new.memory ≡ M.heap runtime.old.memory }
+    ensures grants { M.grants runtime.new.memory ≡ M.grants runtime.old.memory }
+    ensures shared { runtime.new.shared ≡ runtime.old.shared }
+    ensures held { IfOk result (IsValue (M.heap runtime.old.memory)) }
+    ensures within { (w : World) → IsWorld (over_of M.heap M.grants runtime.old contexts.now) w
+        → IfOk result (IsWithin (birth_at (M.heap runtime.old.memory)) runtime.old.shared.names
+        w.store) }
+    ensures value { (w : World) → IsWorld (over_of M.heap M.grants runtime.old contexts.now) w
+        → HasLowest (context_at w identifier) → result_map_both
+        (value_of (birth_at (M.heap runtime.old.memory)) runtime.old.shared.names) (λ why. why)
+        result ≡ values.value_told w identifier place.entry }
+{
+    let Some(member) = contexts.table.get(identifier) else {
+        return Err(Untold::NoContext);
+    };
+    match word_in(member, place, &runtime.shared.names, &mut runtime.memory) {
+        Some(word) => Ok(word),
+        None => Err(Untold::NoValue),
+    }
+}
+
+/// Tells what a context has at a place. Its bytes, which are those of a string, or of the name that a
+/// name or an operator is, are written to the front of a room, if it has place for all of them. The
+/// memory is only read.
+///
+/// `NoContext`: none has this identifier, or it is ended. `NoValue`: the context has no value there.
+/// Then nothing is written.
+pub fn tell_at<M: Memory>(
+    contexts: &Contexts,
+    identifier: u32,
+    place: Place<'_>,
+    runtime: &mut Runtime<M>,
+    room: &mut [u8],
+) -> Result<ToldValue, Untold>
+    requires steady { IsSteady (over_of M.heap M.grants runtime.old contexts.now) }
+    ensures heap { M.heap runtime.new.memory ≡ M.heap runtime.old.memory }
+    ensures grants { M.grants runtime.new.memory ≡ M.grants runtime.old.memory }
+    ensures shared { runtime.new.shared ≡ runtime.old.shared }
+    ensures told { (w : World) → IsWorld (over_of M.heap M.grants runtime.old contexts.now) w
+        → HasLowest (context_at w identifier) → IsTold w identifier place.entry room.old room.new result }
+{
+    match word_at(contexts, identifier, place, runtime) {
+        Ok(word) => Ok(tell_value(word, &runtime.shared.names, &mut runtime.memory, room)),
+        Err(why) => Err(why),
+    }
 }

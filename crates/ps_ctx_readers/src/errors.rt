@@ -34,6 +34,11 @@ pub fn last_error<M: Memory>(memory: &mut M, address: u32) -> LastError
     ensures grants { M.grants memory.new ≡ M.grants memory.old }
     ensures held_name { IfSome result.name (IsValue (M.heap memory.old)) }
     ensures held_command { IfSome result.command (IsValue (M.heap memory.old)) }
+    ensures within_name { (names : List (List ℕ)) (s : Store) → Shows (M.heap memory.old) names s
+        → IfSome result.name (IsWithin (birth_at (M.heap memory.old)) names s) }
+    ensures within_command { (names : List (List ℕ)) (s : Store)
+        → Shows (M.heap memory.old) names s
+        → IfSome result.command (IsWithin (birth_at (M.heap memory.old)) names s) }
     ensures name { (names : List (List ℕ)) (s : Store) → BeginWithFirst names
         → AllPairs (λ one later. one ≢ later) names → Shows (M.heap memory.old) names s
         → option_map (value_of (birth_at (M.heap memory.old)) names) result.name

@@ -15,3 +15,5 @@ pub mod contexts;
 pub mod errors;
 pub mod frames;
 pub mod names;
+pub mod values;
+pub mod views;

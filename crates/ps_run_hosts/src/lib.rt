@@ -12,20 +12,24 @@
 //!   it made, and not at how it came to it, so its answer is that of the steps alone.
 //! - A run that stands is a host's value, perhaps none. What is done to it is told by a code, and a
 //!   run that isn't there is one of the answers, so a handle that was closed is as good as any.
-//! - Codes below 16 are the statuses of `dpsrun`, and tell how a run ended; behind the others no
-//!   run stands, and nothing was written.
+//! - Codes below 16 are the statuses of `dpsrun`, and tell how a run ended; behind those up to 21 no
+//!   run was made, and nothing was written. The others tell of values and definitions.
 #![tactic(auto)]
 
+mod definitions;
 mod handing;
 mod hosting;
 mod keys;
 mod laws;
 mod numbers;
 mod slices;
+mod values;
 
+pub use definitions::hand_definition;
 pub use handing::hand_out;
 pub use hosting::{Refusal, go_on_for, replay_for, run_for};
 pub use keys::Keys;
 pub use laws::host_entry_laws;
 pub use numbers::{HostEntry, Settings, code_of_refusal, settings_of};
 pub use slices::{advance_for, hand_counts, hand_printed, hand_schedule, start_for};
+pub use values::{HostValue, hand_value};

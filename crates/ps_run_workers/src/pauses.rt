@@ -1,7 +1,9 @@
 //! What is left of a baton between two slices of a run, and the baton that goes on from there.
 
 ghost use Rattle.std.specs.Prelude.{◌≡◌};
+ghost use Rattle.ps_ctx_readers.specs.Values.{IsTold};
 ghost use Rattle.ps_vault.specs.Parking.{IsParked, story_of};
+ghost use Rattle.ps_vault.specs.Stories.{world_at};
 ghost use Rattle.ps_run_workers.specs.Batons as batons;
 ghost use Rattle.ps_run_workers.specs.Slices.{at_pause, HasCome};
 
@@ -12,6 +14,7 @@ use crate::waits::Waits;
 use ps_core_laws::collected::Counts;
 use ps_core_laws::sides::LoggedMemory;
 use ps_ctx::deeds::Deeds;
+use ps_ctx_readers::views::{Place, ToldValue, Untold};
 use ps_mem::Memory;
 use ps_step_interpreter::interprets::Interpret;
 use ps_vault::{Config, Outcome, Parked, Screen, Viewer};
@@ -104,5 +107,50 @@ impl<
             outcome,
             counts,
         }
+    }
+}
+
+impl<M: Memory + Drop, S: Interpret + Drop, D: Deeds + Drop> Paused<M, S, D> {
+    /// What its vault, which is lent its program meanwhile, tells of what a context has at a place
+    /// (`Vault::tell`).
+    pub(crate) fn tell(
+        self,
+        program: &[u8],
+        context: u32,
+        place: Place<'_>,
+        room: &mut [u8],
+    ) -> (Paused<M, S, D>, Result<ToldValue, Untold>)
+        requires parked { IsParked M.heap M.grants program.now self.parked }
+        ensures parked { IsParked M.heap M.grants program.now result.0.parked }
+        ensures story { story_of M.heap M.grants program.now result.0.parked
+            ≡ story_of M.heap M.grants program.now self.parked }
+        ensures config { result.0.config ≡ self.config }
+        ensures made { result.0.made ≡ self.made }
+        ensures told { IsTold (world_at (story_of M.heap M.grants program.now self.parked)) context
+            place.entry room.old room.new result.1 }
+    {
+        let Paused {
+            parked,
+            config,
+            made,
+            after,
+            rest,
+            pace,
+            outcome,
+            counts,
+        } = self;
+        let mut vault = parked.lend(program);
+        let told = vault.tell(context, place, room);
+        let paused = Paused {
+            parked: vault.park(),
+            config,
+            made,
+            after,
+            rest,
+            pace,
+            outcome,
+            counts,
+        };
+        (paused, told)
     }
 }

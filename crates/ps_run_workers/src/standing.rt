@@ -6,6 +6,7 @@
 ghost use Rattle.std.specs.Prelude.{◌≡◌, ◌≤◌, ◌↔◌, [], IfOk, Err};
 ghost use Rattle.ps_language.specs.Schedules.{count_of};
 ghost use Rattle.ps_ctx_start.specs.Starts.{IsEmptyHeap};
+ghost use Rattle.ps_ctx_readers.specs.Values.{IsTold};
 ghost use Rattle.ps_vault.specs.Parking.{IsParked, story_of};
 ghost use Rattle.ps_vault.specs.Reports.{IsWithin};
 ghost use Rattle.ps_vault.specs.Stories.{world_at};
@@ -19,6 +20,7 @@ use crate::serving::Lent;
 use ps_core_laws::collected::{CollectedMemory, Counts};
 use ps_core_laws::sides::{Collects, LoggedMemory};
 use ps_ctx::deeds::Deeds;
+use ps_ctx_readers::views::{Place, ToldValue, Untold};
 use ps_mem::Memory;
 use ps_run_schedules::Schedule;
 use ps_step_interpreter::interprets::Interpret;
@@ -163,6 +165,35 @@ impl<M: Memory + Drop, S: Interpret + Drop, D: Deeds + Drop, C: Drop> Standing<M
         ensures { result.now.items ≡ self.now.schedule }
     {
         self.paused.parked.schedule()
+    }
+
+    /// The run, and what it tells of what one of its contexts has at a place. Its bytes, which are those
+    /// of a string, or of the name that a name or an operator is, are written to the front of a room,
+    /// if it has place for all of them.
+    ///
+    /// `NoContext`: none has this identifier, or it is ended. `NoValue`: the context has no value
+    /// there. Then nothing is written.
+    pub fn tell(
+        self,
+        context: u32,
+        place: Place<'_>,
+        room: &mut [u8],
+    ) -> (Standing<M, S, D, C>, Result<ToldValue, Untold>)
+        ensures same { result.0 ≡ self }
+        ensures told { IsTold (world_at self) context place.entry room.old room.new result.1 }
+    {
+        let Standing {
+            program,
+            paused,
+            lent,
+        } = self;
+        let (paused, told) = paused.tell(program.as_slice(), context, place, room);
+        let standing = Standing {
+            program,
+            paused,
+            lent,
+        };
+        (standing, told)
     }
 }
 

@@ -17,4 +17,5 @@ pub mod Readiness
 pub mod Reasons
 pub mod Screening
 pub mod Showing
+pub mod Told
 pub mod Warrants

@@ -2,10 +2,14 @@
 
 ghost use Rattle.std.specs.Prelude.{◌≡◌};
 ghost use Rattle.ps_run_hosts.specs.Handles.{IsAdvancedIn, IsCountedIn, IsPrintedIn, IsScheduledIn};
+ghost use Rattle.ps_run_hosts.specs.Values.{IsValueIn};
 
 use ps_ctx_operators::operators::WorldOperators;
+use ps_ctx_readers::views::Place;
 use ps_ops::operators::Operators;
-use ps_run_hosts::{HostEntry, advance_for, hand_counts, hand_printed, hand_schedule};
+use ps_run_hosts::{
+    HostEntry, HostValue, advance_for, hand_counts, hand_printed, hand_schedule, hand_value,
+};
 use ps_run_workers::SpaceRun;
 use ps_step::steps::Steps;
 use ps_step_interpreter::interprets::Interpret;
@@ -44,5 +48,21 @@ impl Engine {
         ensures { IsCountedIn self.now.run counts.old counts.new result }
     {
         hand_counts(&self.run, counts)
+    }
+
+    /// Tells of a value (`hand_value`).
+    pub(crate) fn value(
+        &mut self,
+        context: u32,
+        place: Place<'_>,
+        value: &mut HostValue,
+        room: &mut [u8],
+    ) -> u32
+        ensures same { self.new.run ≡ self.old.run }
+        ensures told { IsValueIn self.old.run context place.entry
+            (record { value = value.old; bytes = room.old })
+            (record { value = value.new; bytes = room.new }) result }
+    {
+        hand_value(&mut self.run, context, place, value, room)
     }
 }

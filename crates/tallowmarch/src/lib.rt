@@ -15,10 +15,12 @@ ghost use Rattle.ps_vault.specs.declared.reports.Report.{Report};
 ghost use Rattle.ps_run_hosts.specs.declared.hosting.Refusal.{Refusal};
 ghost use Rattle.ps_run_hosts.specs.Hosts.{given_entry, IsFollowed, IsGoneOn, IsHandedOut, IsMade, IsMadeOf};
 
+mod definitions;
 mod engines;
 mod handles;
 mod loose;
 mod slices;
+mod telling;
 
 pub use engines::Engine;
 pub use handles::{Handle, Run};
