@@ -302,6 +302,71 @@ static void values_moved(void) {
     tallowmarch_close(&run);
 }
 
+/* Whether a definition has this text: whole, cut, and not at all where memory is refused to it. */
+static int is_defined(uint32_t (*define)(uint8_t *room, size_t count, uint64_t *size), const char *wanted) {
+    uint8_t room[200];
+    uint64_t size = 77;
+    const size_t length = strlen(wanted);
+    memset(room, 9, sizeof room);
+    int so = define(room, sizeof room, &size) == 0 && size == length && !memcmp(room, wanted, length) && room[length] == 9;
+    memset(room, 9, sizeof room);
+    so = so && define(room, 3, &size) == 0 && size == length && !memcmp(room, wanted, 3) && room[3] == 9;
+    for (long at = 0; so; at++) {
+        memset(room, 9, sizeof room);
+        size = 77;
+        left = at;
+        asked = 0;
+        const uint32_t code = define(room, sizeof room, &size);
+        left = 1L << 40;
+        if (asked <= at) return code == 0 && standing == 0;
+        so = code == TALLOWMARCH_NO_ROOM && size == 77 && room[0] == 9 && standing == 0;
+    }
+    return 0;
+}
+
+static uint32_t an_integer(uint8_t *room, size_t count, uint64_t *size) { return tallowmarch_define_integer((const uint8_t *)"x", 1, INT32_MIN, room, count, size); }
+
+static uint32_t a_boolean(uint8_t *room, size_t count, uint64_t *size) { return tallowmarch_define_boolean((const uint8_t *)"on?", 3, 2, room, count, size); }
+
+static uint32_t a_string(uint8_t *room, size_t count, uint64_t *size) {
+    return tallowmarch_define_string((const uint8_t *)"word", 4, (const uint8_t *)"(\\\0\377", 4, room, count, size);
+}
+
+/* Definitions that go before a program: their texts, what has none, and what the program then has. */
+static void definitions(void) {
+    static uint8_t text[1 << 18], bytes[65536];
+    tallowmarch_standing run = TALLOWMARCH_STANDING;
+    uint8_t name[128], room[4] = {9, 9, 9, 9};
+    uint64_t size = 77, used = 0;
+    tallowmarch_settings large = small(10);
+    large.space = 65536;
+    memset(name, 'n', sizeof name);
+    count(is_defined(an_integer, "/x -2147483648 def\n") && is_defined(a_boolean, "/on? true def\n") && is_defined(a_string, "/word <285c00ff> def\n"), "a definition");
+    static const char *const bad[] = {" ", "a b", "a/b", "(", "a)", "<", ">", "[", "]", "{", "}", "%", "\n"};
+    for (size_t at = 0; at < sizeof bad / sizeof *bad; at++)
+        count(tallowmarch_define_integer((const uint8_t *)bad[at], strlen(bad[at]), 1, room, 4, &size) == TALLOWMARCH_BAD_NAME && size == 77 && room[0] == 9, "a bad name");
+    count(tallowmarch_define_integer(name, 128, 1, room, 4, &size) == TALLOWMARCH_BAD_NAME && tallowmarch_define_integer(name, 127, 1, room, 4, &size) == 0, "a long name");
+    count(tallowmarch_define_string(name, 1, bytes, 65536, room, 4, &size) == TALLOWMARCH_LONG_STRING, "a long string");
+    for (size_t at = 0; at < 65535; at++) bytes[at] = (uint8_t)(at * 7);
+    count(tallowmarch_define_string((const uint8_t *)"all", 3, bytes, 65535, text, sizeof text, &size) == 0, "the longest string");
+    used = size;
+    count(tallowmarch_define_integer((const uint8_t *)"", 0, 5, text + used, sizeof text - used, &size) == 0, "a name of no bytes");
+    used += size;
+    count(tallowmarch_define_boolean((const uint8_t *)"12", 2, 0, text + used, sizeof text - used, &size) == 0, "a name of digits");
+    used += size;
+    memcpy(text + used, "all length =", 12);
+    count(start_bytes(&run, (const char *)text, used + 12, large) == 0 && tallowmarch_advance(&run, 1000) == TALLOWMARCH_FINISHED, "a program behind definitions");
+    static uint8_t found[65535];
+    tallowmarch_value value;
+    count(tallowmarch_definition(&run, 1, (const uint8_t *)"all", 3, &value, found, 65535) == 0 && value.kind == TALLOWMARCH_STRING && value.length == 65535 &&
+              !memcmp(found, bytes, 65535), "the longest string that was defined");
+    count(is_told(definition(&run, 1, ""), (tallowmarch_value){TALLOWMARCH_INTEGER, 0, 5, 0}, ""), "an integer that was defined");
+    count(is_told(definition(&run, 1, "12"), (tallowmarch_value){TALLOWMARCH_BOOLEAN, 0, 0, 0}, ""), "a boolean that was defined");
+    uint8_t printed[8];
+    count(tallowmarch_printed(&run, 0, printed, 8) == 6 && !memcmp(printed, "65535\n", 6), "what the program made of them");
+    tallowmarch_close(&run);
+}
+
 static int stop;
 
 static void *stopping(void *of) {
@@ -415,6 +480,7 @@ int main(int words, char **word) {
     codes();
     values();
     values_moved();
+    definitions();
     stops();
     slices();
     refusals();

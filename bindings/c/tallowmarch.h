@@ -34,7 +34,7 @@ extern "C" {
 #define TALLOWMARCH_VERSION 400
 
 /* What a call returns. Below 16 there was a run: its bytes, entries and counts are handed out. From 16 on there was none, and the rooms and
- * the counts are as they were. The codes of runs are the exit statuses of dpsrun. From 22 on a value of a run that stands wasn't told, or not all of it.
+ * the counts are as they were. The codes of runs are the exit statuses of dpsrun. From 22 on a value of a run that stands wasn't told, or not all of it, or a definition has no text.
  */
 enum tallowmarch_code {
     TALLOWMARCH_FINISHED = 0,      /* each context finished, and no error was reported */
@@ -51,7 +51,9 @@ enum tallowmarch_code {
     TALLOWMARCH_OPEN = 21,         /* a run stands in the handle already */
     TALLOWMARCH_NO_CONTEXT = 22,   /* no context has the identifier, or it is ended */
     TALLOWMARCH_NO_VALUE = 23,     /* the context has no value there */
-    TALLOWMARCH_SMALL_ROOM = 24    /* the room has no place for all bytes of the value */
+    TALLOWMARCH_SMALL_ROOM = 24,   /* the room has no place for all bytes of the value */
+    TALLOWMARCH_BAD_NAME = 25,     /* the name is none that a program can have */
+    TALLOWMARCH_LONG_STRING = 26   /* the string has more than 65535 bytes */
 };
 
 /* What a code says, in a few words that stand for ever: "a code of another version" where this header doesn't know it. */
@@ -71,6 +73,8 @@ static inline const char *tallowmarch_code_text(uint32_t code) {
     case TALLOWMARCH_NO_CONTEXT: return "no context has this identifier";
     case TALLOWMARCH_NO_VALUE: return "the context has no value there";
     case TALLOWMARCH_SMALL_ROOM: return "the room has no place for the value's bytes";
+    case TALLOWMARCH_BAD_NAME: return "the name is none that a program can have";
+    case TALLOWMARCH_LONG_STRING: return "the string is too long";
     default: return "a code of another version";
     }
 }
@@ -174,6 +178,19 @@ uint32_t tallowmarch_go_on(const uint8_t *program, size_t length, const uint64_t
 uint32_t tallowmarch_replay(const uint8_t *program, size_t length, const uint64_t *settings, size_t settings_known, const tallowmarch_entry *given,
                             size_t given_length, uint8_t *printed, size_t printed_room, tallowmarch_entry *schedule, size_t schedule_room,
                             uint64_t *counts, size_t counts_room);
+
+/* Give the text of a definition, which a host puts before a program: so what it hands in is a part of the program, and `dpsrun --replay` follows a
+ * record of the run from that text. It is `/NAME VALUE def` and a line feed, where a string stands as hexadecimal digits, so that it may have any
+ * bytes; one text may follow another. The first bytes of the text are written to `room`, as many as it has room for, and `*size` tells how many there
+ * are. A text has at most 160 bytes, and one of a string two more for each of the string's.
+ *
+ * 0: it is written. TALLOWMARCH_BAD_NAME: a name has no white space and none of ( ) < > [ ] { } / %, and at most 127 bytes. TALLOWMARCH_LONG_STRING:
+ * a string has at most 65535 bytes. TALLOWMARCH_NO_ROOM: memory was refused. In these three cases nothing is written.
+ */
+uint32_t tallowmarch_define_integer(const uint8_t *name, size_t length, int32_t number, uint8_t *room, size_t count, uint64_t *size);
+uint32_t tallowmarch_define_boolean(const uint8_t *name, size_t length, uint32_t truth, uint8_t *room, size_t count, uint64_t *size);
+uint32_t tallowmarch_define_string(const uint8_t *name, size_t length, const uint8_t *bytes, size_t bytes_length, uint8_t *room, size_t count,
+                                   uint64_t *size);
 
 /* A run that stands between calls: start it, make slices of it, look at what it came to, and close it.
  *

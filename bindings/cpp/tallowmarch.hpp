@@ -147,6 +147,46 @@ inline tallowmarch_keys random_keys() {
 
 }  // namespace detail
 
+namespace detail {
+
+// Calls with a room that is large enough for the text.
+template <class Call> std::string defined(std::size_t likely, Call call) {
+    fit();
+    std::string text(likely, '\0');
+    std::uint64_t size = 0;
+    for (;;) {
+        const std::uint32_t code = call(reinterpret_cast<std::uint8_t *>(text.data()), text.size(), size);
+        if (code) throw Error(code);
+        const bool whole = size <= text.size();
+        text.resize(size);
+        if (whole) return text;
+    }
+}
+
+}  // namespace detail
+
+// The text that defines a name as this value, to be put before a program: `/NAME VALUE def` and a line feed, a string being hexadecimal digits. Throws
+// Error where the name is none that a program can have (TALLOWMARCH_BAD_NAME), or the string has more than 65,535 bytes (TALLOWMARCH_LONG_STRING).
+inline std::string definition(const std::string &name, std::int32_t number) {
+    return detail::defined(160, [&](std::uint8_t *room, std::size_t count, std::uint64_t &size) {
+        return tallowmarch_define_integer(detail::bytes_of(name), name.size(), number, room, count, &size);
+    });
+}
+
+inline std::string definition(const std::string &name, bool truth) {
+    return detail::defined(160, [&](std::uint8_t *room, std::size_t count, std::uint64_t &size) {
+        return tallowmarch_define_boolean(detail::bytes_of(name), name.size(), truth, room, count, &size);
+    });
+}
+
+inline std::string definition(const std::string &name, const std::string &bytes) {
+    return detail::defined(160 + 2 * bytes.size(), [&](std::uint8_t *room, std::size_t count, std::uint64_t &size) {
+        return tallowmarch_define_string(detail::bytes_of(name), name.size(), detail::bytes_of(bytes), bytes.size(), room, count, &size);
+    });
+}
+
+inline std::string definition(const std::string &name, const char *bytes) { return definition(name, std::string(bytes)); }
+
 // A run that stands between calls: `advance` makes a slice of it, `take` gives what was printed since. It is moved and not copied, belongs to
 // one call at a time from whatever thread, and gives all its memory back where it ends. `Run::start` starts one.
 class Standing {

@@ -96,6 +96,10 @@ int main() {
     first.close();
     count(refused([&] { first.advance(1); }, TALLOWMARCH_CLOSED) && refused([&] { first.counts(); }, TALLOWMARCH_CLOSED) && first.take().empty() &&
               first.entries().empty(), "a run that was closed");
+    using tallowmarch::definition;
+    count(definition("x", -5) == "/x -5 def\n" && definition("on", true) == "/on true def\n" && definition("word", "hi(") == "/word <686928> def\n", "definitions as text");
+    count(Run(definition("long", std::string(1000, 'a')) + "long length =").run().printed == "1000\n", "a program behind a definition");
+    count(refused([] { definition("a b", 1); }, TALLOWMARCH_BAD_NAME) && refused([] { definition("a", std::string(65536, 'a')); }, TALLOWMARCH_LONG_STRING), "no definitions");
     auto looked = Run("/x 5 def /long 300 string def (text) {} 1 0 idiv").space(4096).start();
     using tallowmarch::Kind;
     count(!looked.operand(0) && !looked.definition("x") && looked.error_name()->kind == Kind::null, "values before the first step");

@@ -68,6 +68,14 @@ class NoContext(Error, LookupError):
     """No context has this identifier, or it is ended."""
 
 
+class BadName(Error, ValueError):
+    """The name is none that a program can have."""
+
+
+class LongString(Error, ValueError):
+    """The string has more than 65,535 bytes."""
+
+
 class Kind(enum.Enum):
     """What a value is."""
     INTEGER = 1
@@ -171,12 +179,14 @@ def _load():
     library.tallowmarch_run.argtypes = [*asked, *rooms]
     library.tallowmarch_go_on.argtypes = library.tallowmarch_replay.argtypes = [*asked, *given, *rooms]
     handle, u32 = pointer(_Standing), ctypes.c_uint32
-    told = [pointer(_Value), pointer(ctypes.c_char), size]
+    told, text = [pointer(_Value), pointer(ctypes.c_char), size], [pointer(ctypes.c_char), size, pointer(ctypes.c_uint64)]
     for name, gives, takes in (('start', u32, [*asked, handle]), ('advance', u32, [handle, u32]),
                                ('printed', size, [handle, size, pointer(ctypes.c_char), size]), ('entries', size, [handle, size, pointer(_Entry), size]),
                                ('counts_of', u32, [handle, ctypes.c_void_p, size]), ('close', None, [handle]),
                                ('operand', u32, [handle, u32, size, *told]), ('definition', u32, [handle, u32, bytes_of, size, *told]),
-                               ('error_name', u32, [handle, u32, *told]), ('error_command', u32, [handle, u32, *told])):
+                               ('error_name', u32, [handle, u32, *told]), ('error_command', u32, [handle, u32, *told]),
+                               ('define_integer', u32, [bytes_of, size, ctypes.c_int32, *text]), ('define_boolean', u32, [bytes_of, size, u32, *text]),
+                               ('define_string', u32, [bytes_of, size, bytes_of, size, *text])):
         function = getattr(library, f'tallowmarch_{name}')
         function.restype, function.argtypes = gives, takes
     return library
@@ -185,7 +195,8 @@ def _load():
 _LIBRARY = _load()
 _ERRORS = {16: OutOfRange('a number of the settings is out of its range'), 17: NoRoom('out of memory'),
            18: OtherSchedule('the schedule is not that of a run by these settings'), 19: BadEntry('an entry of the schedule is none'),
-           20: Closed('no run stands'), 22: NoContext('no context has this identifier')}
+           20: Closed('no run stands'), 22: NoContext('no context has this identifier'),
+           25: BadName('the name is none that a program can have'), 26: LongString('the string is too long')}
 
 
 def _unless_error(code):
@@ -318,6 +329,41 @@ def replay(program: bytes, schedule: typing.Sequence[Entry], *, output: int = 0,
     """
     program, settings, given = bytes(program), _settings(keys, False, output=output), _entries(schedule)
     return _with_rooms(rooms, lambda *made: _LIBRARY.tallowmarch_replay(program, len(program), *_numbers(settings), given, len(schedule), *made))
+
+
+def definition(name: bytes, value: typing.Union[int, bytes]) -> bytes:
+    """The text that defines a name as an integer, a boolean or a string of these bytes, to be put before a program: so what a host hands in is a part of
+    the program, and a record of the run is followed from that text. A string stands as hexadecimal digits.
+
+    Raises BadName where the name has white space, one of ( ) < > [ ] { } / %, or more than 127 bytes, LongString where the string has more than
+    65,535, and OutOfRange where an integer has more than 32 bits.
+
+    >>> program = definition(b'width', 12) + definition(b'on', True) + definition(b'title', b'(:') + b'title print width ='
+    >>> program
+    b'/width 12 def\\n/on true def\\n/title <283a> def\\ntitle print width ='
+    >>> run(program).printed
+    b'(:12\\n'
+    >>> definition(b'two words', 1)
+    Traceback (most recent call last):
+    tallowmarch.BadName: the name is none that a program can have
+    """
+    name = bytes(name)
+    if isinstance(value, bool):
+        call, given = _LIBRARY.tallowmarch_define_boolean, (value,)
+    elif isinstance(value, int):
+        if not -2 ** 31 <= value < 2 ** 31:
+            raise OutOfRange('the integer is out of its range')
+        call, given = _LIBRARY.tallowmarch_define_integer, (value,)
+    else:
+        value = bytes(value)
+        call, given = _LIBRARY.tallowmarch_define_string, (value, len(value))
+    count, size = 160, ctypes.c_uint64()
+    while True:
+        room = ctypes.create_string_buffer(count)
+        _unless_error(call(name, len(name), *given, room, count, size))
+        if size.value <= count:
+            return room.raw[:size.value]
+        count = size.value
 
 
 class Standing:

@@ -35,7 +35,7 @@ mod standing;
 mod values;
 
 pub use standing::{Counts, Slice, Slices, Standing};
-pub use values::{Value, What};
+pub use values::{definition, Defined, Value, What};
 
 /// A program with the settings of its run. See [`Run::new`].
 #[derive(Clone, Debug)]
@@ -275,6 +275,10 @@ pub enum Error {
     BadEntry,
     /// No context has this identifier, or it is ended.
     NoContext,
+    /// The name is none that a program can have.
+    BadName,
+    /// The string has more than 65,535 bytes.
+    LongString,
     /// The library is of another version than this crate.
     Version,
 }
@@ -287,6 +291,8 @@ impl fmt::Display for Error {
             Error::OtherSchedule => "the schedule is not that of a run by these settings",
             Error::BadEntry => "an entry of the schedule is none",
             Error::NoContext => "no context has this identifier",
+            Error::BadName => "the name is none that a program can have",
+            Error::LongString => "the string is too long",
             Error::Version => "libtallowmarch is of another version",
         })
     }

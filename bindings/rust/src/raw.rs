@@ -4,7 +4,7 @@ use std::ffi::c_void;
 use std::mem::size_of;
 use std::ptr::null_mut;
 
-use crate::{random, Error, Outcome, Report, Schedule};
+use crate::{random, Defined, Error, Outcome, Report, Schedule};
 
 /// The version of `tallowmarch.h` that these types are of.
 const VERSION: u32 = 400;
@@ -156,6 +156,20 @@ extern "C" {
 }
 
 extern "C" {
+    fn tallowmarch_define_integer(name: *const u8, length: usize, number: i32, room: *mut u8, count: usize, size: *mut u64) -> u32;
+    fn tallowmarch_define_boolean(name: *const u8, length: usize, truth: u32, room: *mut u8, count: usize, size: *mut u64) -> u32;
+    fn tallowmarch_define_string(
+        name: *const u8,
+        length: usize,
+        bytes: *const u8,
+        bytes_length: usize,
+        room: *mut u8,
+        count: usize,
+        size: *mut u64,
+    ) -> u32;
+}
+
+extern "C" {
     fn tallowmarch_start(program: *const u8, length: usize, settings: *const u64, settings_known: usize, run: *mut Handle) -> u32;
     fn tallowmarch_advance(run: *mut Handle, steps: u32) -> u32;
     fn tallowmarch_printed(run: *mut Handle, from: usize, room: *mut u8, count: usize) -> usize;
@@ -263,6 +277,39 @@ fn all_from<T: Clone + Default>(from: usize, mut call: impl FnMut(&mut [T]) -> u
         call(&mut room);
     }
     room
+}
+
+/// The text of a definition.
+pub(crate) fn definition(name: &[u8], value: Defined<'_>) -> Result<Vec<u8>, Error> {
+    // SAFETY: it takes nothing, and is of every version.
+    if !fits(unsafe { tallowmarch_version() }) {
+        return Err(Error::Version);
+    }
+    let (mut room, mut size) = (vec![0; 160], 0);
+    loop {
+        let (at, count) = (room.as_mut_ptr(), room.len());
+        // SAFETY: each pointer is of a reference or a slice, so it isn't null and leads to as many items as are told; the room is borrowed alone.
+        let code = unsafe {
+            match value {
+                Defined::Integer(number) => tallowmarch_define_integer(name.as_ptr(), name.len(), number, at, count, &mut size),
+                Defined::Boolean(truth) => tallowmarch_define_boolean(name.as_ptr(), name.len(), truth.into(), at, count, &mut size),
+                Defined::String(bytes) => tallowmarch_define_string(name.as_ptr(), name.len(), bytes.as_ptr(), bytes.len(), at, count, &mut size),
+            }
+        };
+        match code {
+            0 => {}
+            17 => return Err(Error::NoRoom),
+            25 => return Err(Error::BadName),
+            26 => return Err(Error::LongString),
+            _ => return Err(Error::Version),
+        }
+        // The text was in the process's memory.
+        let is_whole = size as usize <= count;
+        room.resize(size as usize, 0);
+        if is_whole {
+            return Ok(room);
+        }
+    }
 }
 
 /// A call that is given a schedule.

@@ -1,4 +1,4 @@
-//! The values that a run has.
+//! The values that a run has, and those that are defined before it.
 
 use crate::{raw, Error, Standing};
 
@@ -36,6 +36,40 @@ pub enum What {
     Lock,
     /// A condition.
     Condition,
+}
+
+/// What a name is defined as.
+#[derive(Clone, Copy, Debug, PartialEq, Eq)]
+pub enum Defined<'a> {
+    /// An integer.
+    Integer(i32),
+    /// A boolean.
+    Boolean(bool),
+    /// A string of these bytes, at most 65,535.
+    String(&'a [u8]),
+}
+
+/// The text that defines a name as this value, to be put before a program: `/NAME VALUE def` and a line feed, a string being hexadecimal digits. So what
+/// a host hands in is a part of the program, and a record of the run is followed from that text.
+///
+/// # Errors
+///
+/// [`Error::BadName`] where the name has white space, one of `( ) < > [ ] { } / %`, or more than 127 bytes; [`Error::LongString`] where the string has
+/// more than 65,535; and [`Error::NoRoom`] where memory was refused.
+///
+/// ```
+/// use tallowmarch::{definition, Defined, Error, Run};
+///
+/// let mut program = definition(b"width", Defined::Integer(12))?;
+/// program.extend(definition(b"title", Defined::String(b"(:"))?);
+/// assert_eq!(program, b"/width 12 def\n/title <283a> def\n");
+/// program.extend(b"title print width =");
+/// assert_eq!(Run::new(&program).run()?.printed, b"(:12\n");
+/// assert_eq!(definition(b"two words", Defined::Boolean(true)), Err(Error::BadName));
+/// # Ok::<(), Error>(())
+/// ```
+pub fn definition(name: &[u8], value: Defined<'_>) -> Result<Vec<u8>, Error> {
+    raw::definition(name, value)
 }
 
 fn value_of(value: raw::Value, bytes: Vec<u8>) -> Result<Value, Error> {
