@@ -1,0 +1,3 @@
+pub mod Cuts
+pub mod Laws
+pub mod Runs

@@ -1,0 +1,3 @@
+pub mod Covering
+pub mod Paths
+pub mod Telling

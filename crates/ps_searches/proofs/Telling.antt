@@ -1,0 +1,47 @@
+-- What is told, and what a map of it has.
+use Rattle.std.proofs.Common.{◌≡◌, suc, Bool, true, false, cond, List, [], ◌∷◌, None, Some, refl, sym, ◌∙◌, ap, arith}
+use Rattle.std.specs.Prelude.{Any, Contains, Option, is_some}
+use Rattle.std.specs.Map.{lookup}
+use Rattle.std.proofs.lemmas.Bool.{true≢false}
+use Rattle.std.proofs.lemmas.List.Elements.{All-contains, All-from_recursion}
+use Rattle.std.proofs.lemmas.Map.{none_passes_from_lookup}
+
+-- ---- elements
+
+pub any_of : {X : Type 0} (P : X → Type 0) (xs : List X) (x : X) → Contains xs x → P x → Any P xs
+any_of P xs x among holds = (among.0, x, among.1, among.2, holds)
+
+-- the element of which it holds
+pub among_of : {X : Type 0} (P : X → Type 0) (xs : List X) (some : Any P xs) → Contains xs some.1
+among_of P xs some = (some.0, some.2, some.3)
+
+pub none_of : {X : Type 0} (found : Option X) → is_some found ≡ false → found ≡ None
+none_of None is = refl
+none_of (Some one) is = absurd (true≢false is)
+
+-- ---- entries
+
+module _ {K V : Type 0} (test : K → Bool) where
+  pub passes_later : (one : K × V) (entries : List (K × V))
+      → Any (λ (e : K × V). test e.0 ≡ true) entries
+      → Any (λ (e : K × V). test e.0 ≡ true) (one ∷ entries)
+  passes_later one entries some =
+      (suc some.0, some.1, omega (arith, some.2), some.3, some.4)
+
+  pub looked_up : (entries : List (K × V)) → is_some (lookup test entries) ≡ true
+      → Any (λ (e : K × V). test e.0 ≡ true) entries
+  looked_up [] is = absurd (true≢false (sym is))
+  looked_up (one ∷ entries) is = by (looked_up entries) (test one.0) refl
+    where
+      by : (is_some (lookup test entries) ≡ true → Any (λ (e : K × V). test e.0 ≡ true) entries)
+          → (passes : Bool) → test one.0 ≡ passes
+          → Any (λ (e : K × V). test e.0 ≡ true) (one ∷ entries)
+      by later true passes = (0, one, omega arith, refl, passes)
+      by later false fails = passes_later one entries (later
+          (ap (λ (b : Bool). is_some (cond b (Some one.1) (lookup test entries))) (sym fails) ∙ is))
+
+  pub not_looked_up : (entries : List (K × V)) → lookup test entries ≡ None
+      → (e : K × V) → Contains entries e → test e.0 ≡ false
+  not_looked_up entries none e among =
+      All-contains (λ (e : K × V). test e.0 ≡ false) entries e
+      (All-from_recursion _ entries (none_passes_from_lookup test entries none)) among
