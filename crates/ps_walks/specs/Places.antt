@@ -13,7 +13,7 @@ use Rattle.ps_ctx_readers.specs.Frames.{frames_at, seen}
 use Rattle.ps_ctx_readers.specs.Names.{procedure_name}
 use Rattle.ps_mem.specs.Meaning.{value_of}
 use Rattle.ps_walks.specs.declared.raised.Map.{Map}
-use Rattle.ps_walks.specs.declared.raised.Place.{Place}
+use Rattle.ps_walks.specs.declared.raised.CallSite.{CallSite}
 use Rattle.ps_walks.specs.declared.taken.Taken.{Taken}
 use Rattle.ps_walks.specs.declared.taken.Taken.TheVariants.{Token, Text, Element, Nothing}
 
@@ -91,9 +91,9 @@ trail_of m now taken =
     calls_of m now (taken ∷ callers_of taken m.token (frames_at now m.context))
 
 -- a place as it is meant
-abbrev pub meant : (births : ℕ → ℕ) → (names : List (List ℕ)) → Place → Call
+abbrev pub meant : (births : ℕ → ℕ) → (names : List (List ℕ)) → CallSite → Call
 meant births names place =
     record { begin = place.begin; procedure = option_map (value_of births names) place.procedure }
 
-abbrev pub are_meant : (births : ℕ → ℕ) → (names : List (List ℕ)) → List Place → List Call
+abbrev pub are_meant : (births : ℕ → ℕ) → (names : List (List ℕ)) → List CallSite → List Call
 are_meant births names list = map (meant births names) list

@@ -24,7 +24,7 @@ use std::alloc::{AllocError, Global};
 
 /// A place in the program, and the name of the procedure that it is in, where that has one.
 #[derive(Clone, Copy, Debug, PartialEq, Eq)]
-pub(crate) struct Place {
+pub(crate) struct CallSite {
     pub(crate) begin: usize,
     pub(crate) procedure: Option<Word>,
 }
@@ -38,7 +38,7 @@ pub(crate) struct Raised {
     /// What raised it, as text; nothing where the text of the program did.
     pub(crate) command: Option<Vec<u8>>,
     /// Where it was raised, and then each that had called what is before it.
-    pub(crate) trail: Vec<Place>,
+    pub(crate) trail: Vec<CallSite>,
 }
 
 impl Raised {
@@ -80,7 +80,7 @@ pub(crate) fn trail_of<M: Memory>(
     map: Map<'_>,
     world: &World,
     runtime: &mut Runtime<M>,
-) -> Result<Vec<Place>, AllocError>
+) -> Result<Vec<CallSite>, AllocError>
     requires stands { Stands M.heap M.grants runtime.old world.now }
     ensures heap { M.heap runtime.new.memory ≡ M.heap runtime.old.memory }
     ensures grants { M.grants runtime.new.memory ≡ M.grants runtime.old.memory }
@@ -140,7 +140,7 @@ fn is_same(taken: Taken, last: Taken) -> bool
 /// Pushes the place of what a context took behind others, if that stands in the program.
 #[tactic(auto, unfolding(crate::specs::Places::calls_of))]
 fn push_call<M: Memory>(
-    trail: &mut Vec<Place>,
+    trail: &mut Vec<CallSite>,
     taken: Taken,
     map: Map<'_>,
     world: &World,
@@ -190,7 +190,7 @@ fn place_of<M: Memory>(
     map: Map<'_>,
     world: &World,
     runtime: &mut Runtime<M>,
-) -> Option<Place>
+) -> Option<CallSite>
     requires stands { Stands M.heap M.grants runtime.old world.now }
     ensures heap { M.heap runtime.new.memory ≡ M.heap runtime.old.memory }
     ensures grants { M.grants runtime.new.memory ≡ M.grants runtime.old.memory }
@@ -202,5 +202,5 @@ fn place_of<M: Memory>(
 {
     let begin = taken.place(map.program, map.origins)?;
     let procedure = procedure_of(taken, map, world, runtime);
-    Some(Place { begin, procedure })
+    Some(CallSite { begin, procedure })
 }

@@ -1,6 +1,6 @@
 //! The text of the place of an error.
 
-use crate::raised::{Place, Raised};
+use crate::raised::{CallSite, Raised};
 use ps_names::{NameId, Names};
 use ps_places::position_of;
 use ps_views::{Caller, ErrorPlace, append_place, spot_at};
@@ -24,11 +24,11 @@ pub(crate) struct NamedProgram<'t> {
 /// What these places are told as: one for those that are equal, one behind another.
 fn callers_of<'s>(
     alloc: Global,
-    places: &[Place],
+    places: &[CallSite],
     source: NamedProgram<'s>,
 ) -> Result<Vec<Caller<'s>>, AllocError> {
     let mut callers: Vec<Caller<'s>> = Vec::new(alloc);
-    let mut last: Option<Place> = None;
+    let mut last: Option<CallSite> = None;
     for place in places {
         let again = match last {
             Some(before) => before == *place,

@@ -2,7 +2,7 @@
 use Rattle.std.proofs.Common.{◌≡◌, ◌∷◌, [], ◌++◌, ◌+◌, List, sym, ap, ◌∙◌, rules}
 use Rattle.ps_mem.specs.Heap.{birth_at}
 use Rattle.ps_ctx_readers.specs.Frames.{frames_at}
-use Rattle.ps_walks.specs.declared.raised.Place.{Place}
+use Rattle.ps_walks.specs.declared.raised.CallSite.{CallSite}
 use Rattle.ps_walks.specs.declared.taken.Taken.{Taken}
 use Rattle.ps_walks.specs.Places.{are_meant, caller_of, calls_of, trail_of}
 use Rattle.ps_walks.proofs.Trailing.{caller_at, caller_below, caller_top, calls_end, calls_on, front_all, front_first, front_more, left, trail_first}
@@ -25,7 +25,7 @@ loop-depth-init g c =
           (left c.args.taken m.token m w (frames_at w m.context) 0)
           (are_meant births names c.new-trail.result.items) (trail_first m w c.args.taken)
           (c.in_ok-push_call.ensures.pushed w is)
-          (ap (λ (items : List Place). are_meant births names items) c.new-trail.ensures.items);
+          (ap (λ (items : List CallSite). are_meant births names items) c.new-trail.ensures.items);
     }
 
 pub returns-in_default-clause-trail : goal.returns-in_default-clause-trail
