@@ -53,7 +53,8 @@ enum tallowmarch_code {
     TALLOWMARCH_NO_VALUE = 23,     /* the context has no value there */
     TALLOWMARCH_SMALL_ROOM = 24,   /* the room has no place for all bytes of the value */
     TALLOWMARCH_BAD_NAME = 25,     /* the name is none that a program can have */
-    TALLOWMARCH_LONG_STRING = 26   /* the string has more than 65535 bytes */
+    TALLOWMARCH_LONG_STRING = 26,  /* the string has more than 65535 bytes */
+    TALLOWMARCH_TOO_LARGE = 27     /* the run takes more words in all than a memory that only grows has */
 };
 
 /* What a code says, in a few words that stand for ever: "a code of another version" where this header doesn't know it. */
@@ -75,6 +76,7 @@ static inline const char *tallowmarch_code_text(uint32_t code) {
     case TALLOWMARCH_SMALL_ROOM: return "the room has no place for the value's bytes";
     case TALLOWMARCH_BAD_NAME: return "the name is none that a program can have";
     case TALLOWMARCH_LONG_STRING: return "the string is too long";
+    case TALLOWMARCH_TOO_LARGE: return "the run is too large to be made again";
     default: return "a code of another version";
     }
 }
@@ -178,6 +180,25 @@ uint32_t tallowmarch_go_on(const uint8_t *program, size_t length, const uint64_t
 uint32_t tallowmarch_replay(const uint8_t *program, size_t length, const uint64_t *settings, size_t settings_known, const tallowmarch_entry *given,
                             size_t given_length, uint8_t *printed, size_t printed_room, tallowmarch_entry *schedule, size_t schedule_room,
                             uint64_t *counts, size_t counts_room);
+
+/* Where an error was raised. */
+typedef struct tallowmarch_place {
+    uint64_t step;   /* the number of the step in the run's schedule, from 1 */
+    uint64_t line;   /* the line and the column in the program, from 1; a column is a byte. Both are 0 where what raised it doesn't stand there */
+    uint64_t column;
+    uint64_t offset; /* the byte of the program, from 0; 0 too where it doesn't stand there */
+} tallowmarch_place;
+
+/* Tells where a context raised its last error under the steps of a schedule of `given_length` entries, from a run of this program by whatever
+ * settings; also an error that was caught. For this the steps are made again, over memory that grows and is never collected, so a call takes several
+ * times as long as the run. Of the settings here only `output` and `keys` count.
+ *
+ * 0: the place is told. TALLOWMARCH_NO_VALUE: the context raised no error, or isn't left behind the steps. TALLOWMARCH_BAD_ENTRY: one of the entries
+ * is none. TALLOWMARCH_NO_ROOM: memory was refused. TALLOWMARCH_TOO_LARGE: the run takes more words in all than 16,777,215.
+ * TALLOWMARCH_OUT_OF_RANGE: as for tallowmarch_replay. In these cases the place stays as it was.
+ */
+uint32_t tallowmarch_error_place(const uint8_t *program, size_t length, const uint64_t *settings, size_t settings_known,
+                                 const tallowmarch_entry *given, size_t given_length, uint32_t context, tallowmarch_place *place);
 
 /* Give the text of a definition, which a host puts before a program: so what it hands in is a part of the program, and `dpsrun --replay` follows a
  * record of the run from that text. It is `/NAME VALUE def` and a line feed, where a string stands as hexadecimal digits, so that it may have any

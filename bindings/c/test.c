@@ -6,6 +6,7 @@
 #include "counting.h"
 
 #include <pthread.h>
+#include <inttypes.h>
 #include <stdio.h>
 #include <stdlib.h>
 #include <string.h>
@@ -243,6 +244,31 @@ static void replays(struct made *made) {
               !memcmp(made->schedule + 1, &second, sizeof second), "steps of contexts that there aren't");
 }
 
+/* The place of a context's last error: of the first one, of one that was caught, of none, and of one whose place isn't in the program. */
+static void places(struct made *made) {
+    const tallowmarch_settings any = {0, 0, 0, 0, 0, 0, {1, 2}};
+    const char *const faulty[] = {"1 0\n  idiv", "{pop} stopped\r\n4", "1 2 add pop", "[(x) 0 /idiv cvx] cvx exec"};
+    const tallowmarch_place wanted[] = {{3, 2, 3, 6}, {4, 1, 2, 1}, {7, 7, 7, 7}, {12, 1, 23, 22}};
+    const uint32_t codes[] = {0, 0, TALLOWMARCH_NO_VALUE, 0};
+    for (size_t at = 0; at < sizeof faulty / sizeof *faulty; at++) {
+        run_in(made, faulty[at], small(), BYTES, ENTRIES);
+        tallowmarch_place place = {7, 7, 7, 7};
+        const uint32_t code = tallowmarch_error_place((const uint8_t *)faulty[at], strlen(faulty[at]), TALLOWMARCH_NUMBERS(any), made->schedule,
+                                                      made->counts.entries, 1, &place);
+        if (code != codes[at] || memcmp(&place, wanted + at, sizeof place))
+            fprintf(stderr, "place %zu: code %u, %" PRIu64 " %" PRIu64 ":%" PRIu64 " %" PRIu64 "\n", at, code, place.step, place.line, place.column, place.offset);
+        count(code == codes[at] && !memcmp(&place, wanted + at, sizeof place), "the place of an error");
+    }
+    const tallowmarch_entry none = {1, 0, 0, 0, 0, 0};
+    const tallowmarch_entry idle = {9, 4000000000u, 0, 0, 0, 0};
+    tallowmarch_place place = {7, 7, 7, 7};
+    const tallowmarch_place same = place;
+    const uint8_t *program = (const uint8_t *)"1 =";
+    count(tallowmarch_error_place(program, 3, TALLOWMARCH_NUMBERS(any), &none, 1, 1, &place) == TALLOWMARCH_BAD_ENTRY, "a place behind no entry");
+    count(tallowmarch_error_place(program, 3, TALLOWMARCH_NUMBERS(any), &idle, 1, 9, &place) == TALLOWMARCH_NO_VALUE &&
+              !memcmp(&place, &same, sizeof place), "a place behind steps of nobody");
+}
+
 static void go_on_in(struct made *made, const char *text, tallowmarch_settings settings, const tallowmarch_entry *given, size_t given_length, size_t bytes,
                      size_t entries) {
     memset(made, 0x5a, sizeof *made);
@@ -447,6 +473,7 @@ int main(void) {
     few_entries(&made);
     rooms(&made);
     replays(&made);
+    places(&made);
     goings_on(&made);
     bad_entries(&made);
     refusals(&made, 0);

@@ -22,6 +22,7 @@ mod hosting;
 mod keys;
 mod laws;
 mod numbers;
+mod places;
 mod slices;
 mod values;
 
@@ -31,5 +32,6 @@ pub use hosting::{Refusal, go_on_for, replay_for, run_for};
 pub use keys::Keys;
 pub use laws::host_entry_laws;
 pub use numbers::{HostEntry, Settings, code_of_refusal, settings_of};
+pub use places::{HostPlace, PastRun, hand_place};
 pub use slices::{advance_for, hand_counts, hand_printed, hand_schedule, start_for};
 pub use values::{HostValue, hand_value};

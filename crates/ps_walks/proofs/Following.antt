@@ -1,12 +1,14 @@
 -- The steps of an entry, one behind another.
-use Rattle.std.proofs.Common.{◌≡◌, ◌≢◌, ℕ, zero, suc, ◌+◌, ◌<◌, ◌≤◌, List, [], ◌∷◌, ◌++◌, Bool, true, false, refl, sym, ap, ◌∙◌, arith, inl, inr}
+use Rattle.std.proofs.Common.{◌≡◌, ◌≢◌, ℕ, zero, suc, ◌+◌, ◌-◌, ◌<◌, ◌≤◌, List, [], ◌∷◌, ◌++◌, Bool, true, false, refl, sym, ap, ◌∙◌, arith, inl, inr}
 use Rattle.std.proofs.lemmas.Bool.Decides.{eqb_tells, nat_tests}
 use Rattle.std.proofs.lemmas.List.{replicate_more}
 use Rattle.std.specs.Prelude.{◌==◌, nat_lt, replicate, if◌then◌else◌}
 use Rattle.ps_language.specs.declared.schedules.Entry.{Entry}
 use Rattle.ps_language.specs.Schedules.{Move, last_move, moves, moves_of, plain_move}
 use Rattle.ps_language.specs.World.{World}
-use Rattle.ps_walks.specs.Walks.{walked, walked_all}
+use Rattle.ps_language.specs.Locks.{is_ready}
+use Rattle.ps_language.specs.Worlds.{after_move}
+use Rattle.ps_walks.specs.Walks.{walked, walked_all, without_lines}
 
 -- no step
 pub walked_none : (w : World) → walked_all w [] ≡ w
@@ -112,3 +114,64 @@ module _ (entry : Entry) where
         ∙ replicate_more number (plain_move entry.context)
         ∙ sym (first_below (suc before) (number + 1) (omega (arith, below, other)))
   ]
+
+-- ---- who isn't ready
+
+-- the steps of an entry are its context's
+move_context : (entry : Entry) (steps number : ℕ)
+    → (move_behind entry steps number).context ≡ entry.context
+move_context entry steps number = by (number + 1 == steps)
+  where
+    by : (is : Bool)
+        → (if is then last_move entry else plain_move entry.context).context ≡ entry.context
+    by true = refl
+    by false = refl
+
+-- a step of one who isn't leaves the world
+pub idle_move : (x : World) (move : Move) (context : ℕ) → move.context ≡ context
+    → is_ready (without_lines x) context ≡ false → walked x move ≡ without_lines x
+idle_move x move context same idle =
+    ap (λ (is : Bool). if is then after_move (without_lines x) move else without_lines x)
+    (ap (is_ready (without_lines x)) same ∙ idle)
+
+-- and so do all steps of the entry behind it
+module _ (w : World) (entry : Entry) (steps number : ℕ) (below : number < steps)
+    (idle : is_ready (without_lines (walked_all w (first_moves entry steps number))) entry.context
+    ≡ false) where
+  abbrev pub before : World
+  before = walked_all w (first_moves entry steps number)
+
+  next_is : (at : ℕ) → at < steps → walked_all w (first_moves entry steps (at + 1))
+      ≡ walked (walked_all w (first_moves entry steps at)) (move_behind entry steps at)
+  next_is at within =
+      ap (walked_all w) (sym (first_more entry steps at within))
+      ∙ walked_more w (first_moves entry steps at) (move_behind entry steps at)
+
+  first_idle : walked_all w (first_moves entry steps (number + 1)) ≡ without_lines before
+  first_idle = next_is number below
+      ∙ idle_move before (move_behind entry steps number) entry.context
+      (move_context entry steps number) idle
+
+  later : (more : ℕ) → number + 1 + more ≤ steps
+      → walked_all w (first_moves entry steps (number + 1 + more)) ≡ without_lines before
+  later zero within =
+      let none : number + 1 + 0 ≡ number + 1 = omega arith in
+      ap (λ n. walked_all w (first_moves entry steps n)) none ∙ first_idle
+  later (suc more) within =
+      let at : ℕ = number + 1 + more in
+      let next : number + 1 + suc more ≡ at + 1 = omega arith in
+      ap (λ n. walked_all w (first_moves entry steps n)) next
+      ∙ next_is at (omega (arith, within))
+      ∙ ap (λ x. walked x (move_behind entry steps at)) (later more (omega (arith, within)))
+      ∙ idle_move (without_lines before) (move_behind entry steps at) entry.context
+      (move_context entry steps at) idle
+
+  pub idle_entry : walked before (move_behind entry steps number)
+      ≡ walked_all w (moves_of entry steps)
+  idle_entry =
+      let whole : number + 1 + (steps - (number + 1)) ≡ steps = omega (arith, below) in
+      idle_move before (move_behind entry steps number) entry.context
+      (move_context entry steps number) idle
+      ∙ sym (later (steps - (number + 1)) (omega (arith, below)))
+      ∙ ap (λ n. walked_all w (first_moves entry steps n)) whole
+      ∙ ap (walked_all w) (first_all entry steps steps (omega arith))

@@ -1,13 +1,13 @@
 //! A run that is made again, step by step.
 
-ghost use Rattle.std.specs.Prelude.{◌≡◌, ◌+◌, ◌<◌, ◌==◌, if◌then◌else◌, true, OnOk};
+ghost use Rattle.std.specs.Prelude.{◌≡◌, ◌+◌, ◌<◌, ◌==◌, if◌then◌else◌, true, IfOk, OnOk};
 ghost use Rattle.ps_language.specs.Locks as locks;
 ghost use Rattle.ps_language.specs.World.{World as TheWorld};
 ghost use Rattle.ps_language.specs.Worlds.{after_move};
 ghost use Rattle.ps_ctx_table.specs.Desks.{IsWorld};
 ghost use Rattle.ps_run_schedules.specs.Turns.{move_of};
 ghost use Rattle.ps_language.specs.Schedules.{last_move, moves, moves_of, plain_move};
-ghost use Rattle.ps_walks.specs.Walks.{Stands, desk_in, walked, walked_all};
+ghost use Rattle.ps_walks.specs.Walks.{Stands, desk_in, walked, walked_all, without_lines};
 
 use crate::before::known_of;
 use crate::kept::Kept;
@@ -138,25 +138,32 @@ impl<M: Memory + Drop, S: Interpret + Drop, D: Deeds + Drop> Walk<'_, M, S, D> {
     {
         for number in 0..entry.steps {
             let (refused, shown) = way_of(entry, number);
-            self.try_step(alloc, entry.context, refused, shown)?;
+            if !self.try_step(alloc, entry.context, refused, shown)? {
+                // No step of the entry is made behind one that isn't.
+                self.kept.pass(u64::from(entry.steps - number - 1));
+                return Ok(());
+            }
         }
         Ok(())
     }
 
-    /// Makes a step of a context, if it is ready.
+    /// Makes a step of a context, if it is ready, and tells whether it is.
     fn try_step(
         &mut self,
         alloc: Global,
         context: u32,
         refused: bool,
         shown: Option<(i32, i32)>,
-    ) -> Result<(), WalkFault>
+    ) -> Result<bool, WalkFault>
         requires stands { Stands M.heap M.grants self.old.runtime self.old.world }
         ensures stands { OnOk result (Stands M.heap M.grants self.new.runtime self.new.world) }
         ensures walked { OnOk result ((w : TheWorld)
             → IsWorld (desk_in M.heap M.grants self.old.runtime self.old.world) w
             → IsWorld (desk_in M.heap M.grants self.new.runtime self.new.world)
             (walked w (move_of context refused shown))) }
+        ensures ready { IfOk result (λ is_ready. (w : TheWorld)
+            → IsWorld (desk_in M.heap M.grants self.old.runtime self.old.world) w
+            → locks.is_ready (without_lines w) context ≡ is_ready) }
     {
         self.world.contexts.has_faulted = false;
         self.kept.pass(1);
@@ -167,7 +174,7 @@ impl<M: Memory + Drop, S: Interpret + Drop, D: Deeds + Drop> Walk<'_, M, S, D> {
         if is_ready {
             self.step(alloc, context, refused, shown)?;
         }
-        Ok(())
+        Ok(is_ready)
     }
 
     /// Makes a step of a context that is ready.

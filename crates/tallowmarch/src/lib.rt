@@ -19,6 +19,7 @@ mod definitions;
 mod engines;
 mod handles;
 mod loose;
+mod places;
 mod slices;
 mod telling;
 

@@ -1,5 +1,5 @@
 -- The settings are those of the numbers, and the numbers are some.
-use Rattle.std.proofs.Common.{◌≡◌, refl, sym, ◌∙◌}
+use Rattle.std.proofs.Common.{refl, sym, ◌∙◌}
 use Rattle.std.proofs.lemmas.Bool.{true≢false}
 use Rattle.ps_run_hosts.proofs.numbers.settings_of.Goals as goal
 

@@ -1,5 +1,5 @@
 -- The next is passed over, or none is left.
-use Rattle.std.proofs.Common.{◌≡◌, ℕ, ◌≤◌, ◌∙◌, false, None, [], ap, sym, refl, arith, length, drop}
+use Rattle.std.proofs.Common.{◌≡◌, ℕ, ◌≤◌, ◌∙◌, false, None, [], ap, sym, arith, length, drop}
 use Rattle.std.proofs.lemmas.List.{drop_all, length-drop}
 use Rattle.ps_language.specs.declared.schedules.Entry.{Entry}
 use Rattle.ps_run_hosts.proofs.Rooms.{next_of}
