@@ -1,5 +1,5 @@
 -- Texts one behind another.
-use Rattle.std.proofs.Common.{◌≡◌, ap, ◌∙◌, List, ◌++◌, ℕ, append_assoc}
+use Rattle.std.proofs.Common.{◌≡◌, refl, ap, ◌∙◌, List, ◌++◌, ℕ, ◌<◌, ◌≤◌, length, arith, append_assoc}
 
 pub two : (old x y a b : List ℕ) → x ≡ old ++ a → y ≡ x ++ b → y ≡ old ++ (a ++ b)
 two old x y a b e f = f ∙ ap (λ l. l ++ b) e ∙ append_assoc old a b
@@ -14,3 +14,9 @@ four old x y z w a b c d e f g h = two old x w a (b ++ (c ++ d)) e (three x y z 
 pub five : (old x y z w v a b c d e : List ℕ) → x ≡ old ++ a → y ≡ x ++ b → z ≡ y ++ c → w ≡ z ++ d → v ≡ w ++ e
     → v ≡ old ++ (a ++ (b ++ (c ++ (d ++ e))))
 five old x y z w v a b c d e f g h i j = two old x v a (b ++ (c ++ (d ++ e))) f (four x y z w v b c d e g h i j)
+
+-- where the last of them found no room, there was none for all
+pub full_three : (least room : ℕ) (old x y a b c : List ℕ) → x ≡ old ++ a → y ≡ x ++ b → least ≤ room
+    → room < length (y ++ c) → least < length (old ++ (a ++ (b ++ c)))
+full_three least room old x y a b c e f low full =
+    omega (arith, low, full, ap length (three old x y (y ++ c) a b c e f refl))

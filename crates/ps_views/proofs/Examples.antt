@@ -1,12 +1,11 @@
 -- What the text of an error's place is, by examples that a near neighbour of the definition fails.
-use Rattle.std.proofs.Common.{◌≡◌, refl, ℕ, List, [], ◌∷◌, ◌++◌, Some, None}
-use Rattle.std.specs.Prelude.{codes, replicate}
+use Rattle.std.proofs.Common.{◌≡◌, refl, [], ◌∷◌, ◌++◌}
+use Rattle.std.specs.Prelude.{codes}
 use Rattle.std.specs.Fmt.{decimal}
-use Rattle.ps_places.specs.declared.positions.Position.{Position}
 use Rattle.ps_views.specs.declared.bytes.Showing.TheVariants.{Word, Source, Blank}
 use Rattle.ps_views.specs.Bytes.{shown_byte}
 use Rattle.ps_views.specs.Sources.{window_begin, window_bytes, window_mark, is_cut_before, is_cut_behind, source_text}
-use Rattle.ps_views.specs.Places.{position_text, times_text, more_text}
+use Rattle.ps_views.specs.Places.{times_text, more_text}
 
 -- ---- bytes
 

@@ -1,4 +1,5 @@
 mod Examples
+mod StateExamples
 pub mod Appended
 pub mod Callers
 pub mod Windows

@@ -1,5 +1,5 @@
 -- The text that tells where an error is.
-use Rattle.std.specs.Prelude.{ℕ, zero, suc, ◌+◌, ◌-◌, Option, Some, None, List, [], ◌++◌, length}
+use Rattle.std.specs.Prelude.{ℕ, zero, suc, ◌-◌, Option, Some, None, List, [], ◌++◌, length}
 use Rattle.std.specs.Borrow.{Bor}
 use Rattle.std.specs.Prelude.{take, map, nat_lt, codes, if◌then◌else◌}
 use Rattle.std.specs.List.{flat_map}

@@ -2,6 +2,7 @@
 
 ghost use Rattle.std.specs.Prelude.{◌≡◌, ◌<◌, ◌≤◌, ◌++◌, map, replicate, take, length, OnOk, OnErr};
 ghost use Rattle.std.specs.Prelude.{vec_capacity};
+ghost use Rattle.std.specs.Fmt.{signed_decimal};
 ghost use Rattle.ps_views.specs.Bytes.{shown_byte};
 
 use itoa::{Buffer, Integer};
@@ -12,7 +13,9 @@ use std::alloc::AllocError;
 pub(crate) enum Showing {
     /// In a line of the text: printable ASCII as it is, any other byte as `?`.
     Word,
-    /// The same, but that a tab stays a tab.
+    /// The same, but that a tab or a byte of a line's end is a space.
+    Line,
+    /// As in a word, but that a tab stays a tab.
     Source,
     /// Space of the same width.
     Blank,
@@ -25,6 +28,15 @@ fn shown(showing: Showing, byte: u8) -> u8
     let is_printable = byte >= b' ' && byte <= b'~';
     match showing {
         Showing::Word => { if is_printable { byte } else { b'?' } }
+        Showing::Line => {
+            if is_printable {
+                byte
+            } else if byte == b'\t' || byte == b'\n' || byte == b'\r' {
+                b' '
+            } else {
+                b'?'
+            }
+        }
         Showing::Source => {
             if is_printable || byte == b'\t' {
                 byte
@@ -85,6 +97,19 @@ pub(crate) fn append_number<I: Integer>(number: I, to: &mut Vec<u8>) -> Result<(
     ensures front { take (length to.old.items) to.new.items ≡ to.old.items }
     ensures capacity { vec_capacity to.old ≤ vec_capacity to.new }
     ensures full { OnErr result (vec_capacity to.old < length (to.old.items ++ I.text number)) }
+{
+    let mut buffer = Buffer::new();
+    to.extend_from_slice(buffer.format(number).as_bytes())
+}
+
+/// Appends an integer in decimal, behind a minus sign where it is negative. Fails where a growth is
+/// refused; what stood before stays.
+pub(crate) fn append_integer(number: i64, to: &mut Vec<u8>) -> Result<(), AllocError>
+    ensures appended { OnOk result (to.new.items ≡ to.old.items ++ signed_decimal number) }
+    ensures front { take (length to.old.items) to.new.items ≡ to.old.items }
+    ensures capacity { vec_capacity to.old ≤ vec_capacity to.new }
+    ensures full { OnErr result
+        (vec_capacity to.old < length (to.old.items ++ signed_decimal number)) }
 {
     let mut buffer = Buffer::new();
     to.extend_from_slice(buffer.format(number).as_bytes())

@@ -1,4 +1,5 @@
-//! What a run shows of itself, as text: where an error is.
+//! What a run shows of itself, as text: where an error is, what the state is behind so many steps,
+//! and what each step does.
 //!
 //! Why so:
 //! - A text is told by a plain struct, whoever finds out what it holds. So this crate knows neither
@@ -10,7 +11,18 @@
 #![tactic(auto)]
 
 mod bytes;
+mod frames;
+mod lines;
 mod places;
 mod sources;
+mod states;
+mod steps;
 
+pub use frames::{Coming, FrameLine, append_frame};
+pub use lines::append_label;
 pub use places::{Caller, ErrorPlace, Spot, append_place, spot_at};
+pub use states::{
+    ContextHead, StateHead, StatusLine, append_context, append_dictionary, append_head,
+    append_lock, append_next, append_operand,
+};
+pub use steps::{Remark, StepLine, append_remark, append_step_line, append_step_operand};

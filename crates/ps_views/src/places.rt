@@ -76,7 +76,11 @@ pub fn spot_at<'a>(text: &'a [u8], offset: usize, procedure: Option<&'a [u8]>) -
 }
 
 /// Appends a place: the file, the line and the column.
-fn append_position(file: &[u8], position: Position, to: &mut Vec<u8>) -> Result<(), AllocError>
+pub(crate) fn append_position(
+    file: &[u8],
+    position: Position,
+    to: &mut Vec<u8>,
+) -> Result<(), AllocError>
     ensures appended { OnOk result
         (to.new.items ≡ to.old.items ++ position_text file.now position) }
     ensures front { take (length to.old.items) to.new.items ≡ to.old.items }

@@ -1,5 +1,5 @@
 -- A line more, each time.
-use Rattle.std.proofs.Common.{◌<◌, length, arith}
+use Rattle.std.proofs.Common.{arith}
 use Rattle.ps_views.specs.Places.{caller_text}
 use Rattle.ps_views.proofs.Callers.{front_through, each_more, each_full, given_err}
 use Rattle.ps_views.proofs.places.append_each.Goals as goal

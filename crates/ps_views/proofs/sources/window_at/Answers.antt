@@ -1,6 +1,5 @@
 -- The part is as long as the line has it.
-use Rattle.std.proofs.Common.{◌≡◌, length}
-use Rattle.ps_views.specs.Sources.{window_begin}
+use Rattle.std.proofs.Common.{length}
 use Rattle.ps_views.proofs.Windows.{begin_is, bytes_are, mark_is, before_is, behind_is}
 use Rattle.ps_views.proofs.sources.window_at.Goals as goal
 

@@ -1,0 +1,9 @@
+mod Examples
+mod StepExamples
+pub mod Calling
+pub mod Each
+pub mod Lines
+pub mod Members
+pub mod Named
+pub mod Own
+pub mod Words

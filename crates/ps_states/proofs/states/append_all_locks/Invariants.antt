@@ -1,0 +1,16 @@
+use Rattle.std.proofs.Common.{◌≡◌, ◌++◌, take}
+use Rattle.ps_language.specs.World.{World}
+use Rattle.ps_ctx_table.specs.Desks.{IsWorld}
+use Rattle.ps_ctx.specs.Calls.{over_of}
+use Rattle.ps_states.specs.States.{each_context, lock_lines}
+use Rattle.ps_states.proofs.states.append_all_locks.Given as goal
+
+-- those so far were told
+abbrev pub invariant-loop-place : goal.invariant-loop-place
+invariant-loop-place g l = record {
+  heap : g.M.Memory.heap l.runtime.memory ≡ g.M.Memory.heap l.fn.runtime.memory;
+  grants : g.M.Memory.grants l.runtime.memory ≡ g.M.Memory.grants l.fn.runtime.memory;
+  shared : l.runtime.shared ≡ l.fn.runtime.shared;
+  lines : (w : World) → IsWorld (over_of g.M.Memory.heap g.M.Memory.grants l.fn.runtime l.contexts) w
+      → l.to.items ≡ l.fn.to.items ++ each_context (lock_lines w.store) 1 (take l.place w.contexts);
+}

@@ -1,0 +1,46 @@
+use Rattle.std.proofs.Common.{◌∙◌, arith}
+use Rattle.ps_states.specs.Chosen.{chart_of}
+use Rattle.ps_states.specs.States.{lines_in}
+use Rattle.ps_states.proofs.Each.{each_more, each_told, made_all}
+use Rattle.ps_states.proofs.states.append_contexts.Goals as goal
+
+pub append_context_at-requires : goal.append_context_at-requires
+append_context_at-requires g c = record {
+  steady = rw (c.loop-place.invariant.heap, c.loop-place.invariant.grants, c.loop-place.invariant.shared)
+      c.requires.steady;
+}
+
+pub loop-place-preserved : goal.loop-place-preserved
+loop-place-preserved g c =
+    let h = g.M.Memory.heap c.args.runtime.now.memory in
+    let names = c.args.runtime.now.shared.names in
+    let told = c.in_ok-append_context_at.ensures.lines in
+    let lines = rw (c.loop-place.invariant.heap, c.loop-place.invariant.grants, c.loop-place.invariant.shared) at told in
+    record {
+      heap = c.append_context_at.ensures.heap ∙ c.loop-place.invariant.heap;
+      grants = c.append_context_at.ensures.grants ∙ c.loop-place.invariant.grants;
+      shared = c.append_context_at.ensures.shared ∙ c.loop-place.invariant.shared;
+      lines = λ w is.
+          each_more (lines_in (chart_of c.args.chart.now) w) w c.loop-place.place c.args.to.now.items c.loop-place.to.items
+          c.append_context_at.new.to.items
+          (omega (
+            arith,
+            c.loop-place-test.true,
+            c.made-place-end.ensures.made,
+            made_all h names c.args.crowd.now.contexts.now.table w is.contexts,
+          ))
+          (c.loop-place.invariant.lines w is) (lines w is);
+    }
+
+pub returns-clause-lines : goal.returns-clause-lines
+returns-clause-lines g c = λ w is.
+    let h = g.M.Memory.heap c.args.runtime.now.memory in
+    let names = c.args.runtime.now.shared.names in
+    each_told (lines_in (chart_of c.args.chart.now) w) w c.loop-place.place c.args.to.now.items c.loop-place.to.items
+    (omega (
+      arith,
+      c.loop-place-test.false,
+      c.made-place-end.ensures.made,
+      made_all h names c.args.crowd.now.contexts.now.table w is.contexts,
+    ))
+    (c.loop-place.invariant.lines w is)

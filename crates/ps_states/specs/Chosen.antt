@@ -1,0 +1,15 @@
+-- What the values of the code stand for.
+use Rattle.ps_states.specs.declared.charts.Chart.{Chart as ChartOf}
+use Rattle.ps_states.specs.declared.next.Next.{Next as NextOf}
+use Rattle.ps_states.specs.Charts.{Chart}
+use Rattle.ps_states.specs.Next.{Next}
+
+-- what a run is told by
+abbrev pub chart_of : ChartOf → Chart
+chart_of chart =
+    record { file = chart.file.now; program = chart.program.now; origins = chart.origins.now }
+
+-- what the next step does
+abbrev pub next_shown : NextOf → Next
+next_shown next =
+    record { coming = next.coming; value = next.value.items; position = next.position }

@@ -1,0 +1,23 @@
+//! What a run shows of itself behind so many steps: the state of its world as text.
+//!
+//! Why so:
+//! - The text is a function of the world, of the places in its program and of the number of the
+//!   step (`state_text`). So it is the same in every memory, and two of them can be compared line
+//!   by line.
+//! - The parts of a text are appended one behind another, each read where it stands. So nothing is
+//!   built beside the text but the text of one value.
+//! - Whether a context may go on is asked of whoever does its operators, and handed in.
+#![tactic(auto)]
+
+mod charts;
+mod contexts;
+mod frames;
+mod locks;
+mod next;
+mod stacks;
+mod states;
+mod statuses;
+mod values;
+
+pub use charts::Chart;
+pub use states::{Crowd, StepCount, append_state};
