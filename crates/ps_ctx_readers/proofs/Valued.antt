@@ -1,5 +1,5 @@
 -- What values are, where they are found, and what a room is handed.
-use Rattle.std.proofs.Common.{◌≡◌, ℕ, zero, suc, ◌-◌, ◌≤◌, ◌<◌, Bool, true, false, List, [], ◌∷◌, ◌++◌, drop, length, Option, Some, None, refl, sym, ap, ◌∙◌, subst, arith}
+use Rattle.std.proofs.Common.{◌≡◌, ℕ, zero, suc, ◌-◌, ◌≤◌, true, List, [], ◌∷◌, ◌++◌, drop, length, Option, Some, None, refl, sym, ap, ◌∙◌, subst}
 use Rattle.std.specs.Prelude.{IfSome, nat_le, option_map, slice_get}
 use Rattle.std.specs.List.{AllByRecursion}
 use Rattle.std.proofs.lemmas.Bool.{le-leb}
@@ -15,7 +15,7 @@ use Rattle.ps_word.specs.Readers as words
 use Rattle.ps_mem.specs.Heap.{Heap, birth_at}
 use Rattle.ps_mem.specs.Meaning.{value_of}
 use Rattle.ps_mem.specs.References.{StandsAs}
-use Rattle.ps_mem.specs.Shows.{AreValues, IsValue}
+use Rattle.ps_mem.specs.Shows.{IsValue}
 use Rattle.ps_dict.proofs.Telling.{dictionary_stands}
 use Rattle.ps_ops_operands.specs.Changes.{values_in}
 use Rattle.ps_step_lookup.proofs.Looking.{dictionary_is}
@@ -63,7 +63,8 @@ module _ (h : Heap) (names : List (List ℕ)) (ws : List Word) (above : ℕ)
     (is : above ≡ length ws - 2) (first : HasFirstDictionaries (values_in h names ws)) where
   user_here : slice_get (values_in h names ws) above ≡ Some user_value
   user_here =
-      let long : length (values_in h names ws) ≡ length ws = length-map ws (value_of (birth_at h) names) in
+      let long : length (values_in h names ws) ≡ length ws =
+      length-map ws (value_of (birth_at h) names) in
       ap (slice_get (values_in h names ws)) (is ∙ ap (λ (n : ℕ). n - 2) (sym long))
       ∙ found_in_front (values_in h names ws) (system_value ∷ []) _ user_value first
 
@@ -77,7 +78,8 @@ module _ (h : Heap) (names : List (List ℕ)) (ws : List Word) (above : ℕ)
       sym (dictionary_is (birth_at h) names w) ∙ ap as_dictionary same
 
   pub user_gone : None ≡ slice_get ws above → ⊥
-  user_gone none = gone (slice_get (values_in h names ws) above) (no_value ws above (sym none)) user_here
+  user_gone none =
+      gone (slice_get (values_in h names ws) above) (no_value ws above (sym none)) user_here
     where
       no_value : (xs : List Word) (n : ℕ) → slice_get xs n ≡ None
           → slice_get (values_in h names xs) n ≡ None

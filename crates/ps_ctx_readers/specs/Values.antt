@@ -82,8 +82,8 @@ HasLowest found = IfSome found (λ one. HasFirstDictionaries one.dictionaries)
 
 -- ---- what a room is handed
 
--- all of these bytes at the front of a room that has place for them, and behind them what it had; in
--- another what it had
+-- all of these bytes at the front of a room that has place for them, and behind them what it had;
+-- in another what it had
 abbrev pub written : (bytes room : List ℕ) → List ℕ
 written bytes room =
     if nat_le (length bytes) (length room) then bytes ++ drop (length bytes) room else room

@@ -164,7 +164,8 @@ pub fn tell_at<M: Memory>(
     ensures grants { M.grants runtime.new.memory ≡ M.grants runtime.old.memory }
     ensures shared { runtime.new.shared ≡ runtime.old.shared }
     ensures told { (w : World) → IsWorld (over_of M.heap M.grants runtime.old contexts.now) w
-        → HasLowest (context_at w identifier) → IsTold w identifier place.entry room.old room.new result }
+        → HasLowest (context_at w identifier)
+        → IsTold w identifier place.entry room.old room.new result }
 {
     match word_at(contexts, identifier, place, runtime) {
         Ok(word) => Ok(tell_value(word, &runtime.shared.names, &mut runtime.memory, room)),

@@ -1,19 +1,18 @@
 -- The text of a definition is read back, token by token.
-use Rattle.std.proofs.Common.{◌≡◌, ℕ, zero, suc, ◌+◌, ◌-◌, ◌*◌, ◌/◌, ◌%◌, ◌^◌, ◌≤◌, ◌<◌, ◌==◌, ◌&&◌, Bool, true, false, not, List, [], ◌∷◌, ◌++◌, length, refl, sym, ap, ◌∙◌, subst, arith, inl, inr}
-use Rattle.std.specs.Prelude.{◌⊎◌, ℤ, pos, negsuc, neg_ℤ, nat_lt, nat_le, codes, filter, IsTrue}
+use Rattle.std.proofs.Common.{◌≡◌, ℕ, suc, ◌+◌, ◌-◌, ◌*◌, ◌/◌, ◌%◌, ◌^◌, ◌≤◌, ◌<◌, ◌==◌, ◌&&◌, Bool, true, false, not, List, [], ◌∷◌, ◌++◌, length, refl, sym, ap, ◌∙◌, subst, arith, inl, inr}
+use Rattle.std.specs.Prelude.{◌⊎◌, ℤ, pos, negsuc, neg_ℤ, nat_lt, nat_le, codes, filter}
 use Rattle.std.specs.List.{AllByRecursion, list_all}
 use Rattle.std.specs.Fmt.{decimal, signed_decimal}
-use Rattle.std.proofs.lemmas.Bool.{cases_Bool, and_parts, and_from, cond-true, cond-false, eqb-true, leb-true, ltb-true, ne_eqb, le-leb, lt-ltb, le-ltb, cases_lt, false≢true, not-true}
+use Rattle.std.proofs.lemmas.Bool.{and_parts, and_from, cond-true, cond-false, eqb-true, leb-true, ltb-true, ne_eqb, le-leb, lt-ltb, le-ltb, cases_lt, false≢true, not-true}
 use Rattle.std.proofs.lemmas.Fmt.{decimal_is_IsNumeral, digits_decimal, digits_value-decimal}
 use Rattle.std.proofs.lemmas.Str.Parse.{FoldsDigits, IsDigitsTest, IsNumeralModel, numerals_by_fold}
 use Rattle.std.proofs.lemmas.List.{append_assoc, length-append}
 use Rattle.ps_language.specs.Bytes.{digit_of, is_digit, is_digit_in, is_hex, is_hex_or_white, is_regular, is_special, is_white, value_in}
 use Rattle.ps_language.specs.Limits.{name_limit, nesting_limit, sequence_limit}
-use Rattle.ps_language.specs.Reading.{Reading, token_then, fits_integer, integer_word, name_word, pairs, sized_name, sized_string, Word, word_reading}
-use Rattle.ps_language.specs.Scan.{after_hex_start, after_slash, as_scan, behind_blank, beyond, further_on, hex_reading, hex_start, leading, regular_start, scan, simple_by, slash_start, start_of, text_scan, token_here, word_of, word_by, unsigned, is_real_tail}
+use Rattle.ps_language.specs.Reading.{token_then, fits_integer, integer_word, name_word, pairs, sized_name, sized_string, Word, word_reading}
+use Rattle.ps_language.specs.Scan.{after_hex_start, after_slash, as_scan, beyond, further_on, hex_reading, leading, scan, simple_by, start_of, text_scan, token_here, word_of, word_by, unsigned, is_real_tail}
 use Rattle.ps_language.specs.Syntax.{bare_integer, EachIs, IsDigits, IsInteger, IsNonEmpty, minus_integer, StopsAt}
-use Rattle.ps_language.specs.Texts.{boolean_text}
-use Rattle.ps_language.specs.Token.{Token, executable_name_token, found, literal_name_token, number_token, Scan, string_token}
+use Rattle.ps_language.specs.Token.{Token, executable_name_token, found, literal_name_token, number_token, string_token}
 use Rattle.ps_language.proofs.Blanks.{behind_none, behind_white}
 use Rattle.ps_language.proofs.ScanSteps.{scan_shifted}
 use Rattle.ps_language.proofs.Simples.{regular_is_start}

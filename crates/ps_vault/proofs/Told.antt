@@ -1,6 +1,6 @@
 -- What is told of a context's values while a call waits is what the world has.
 use Rattle.std.proofs.Common.{◌≡◌, ℕ, List, Bool, true, false, Option, Some, None, refl, sym, ap, ◌∙◌, subst}
-use Rattle.std.specs.Prelude.{◌==◌, IfSome, Result}
+use Rattle.std.specs.Prelude.{◌==◌, Result}
 use Rattle.std.proofs.lemmas.Bool.{eqb-true, eqb-false}
 use Rattle.ps_language.specs.Contexts.{context_at}
 use Rattle.ps_language.specs.Keeping.{Stays}

@@ -1,6 +1,5 @@
 -- What the context of the world has there.
-use Rattle.std.proofs.Common.{◌≡◌, Option, Some, sym, ap, subst, ◌∙◌}
-use Rattle.ps_language.specs.World.{Context}
+use Rattle.std.proofs.Common.{Some, sym, ap, subst, ◌∙◌}
 use Rattle.ps_ctx_table.specs.Desks.{Desk, IsGoodMember, lent_to}
 use Rattle.ps_ctx_table.proofs.Turning.{member_at}
 use Rattle.ps_ctx.specs.Calls.{over_of}

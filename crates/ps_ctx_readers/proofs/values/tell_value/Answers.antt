@@ -1,5 +1,5 @@
 -- The word is told by its content.
-use Rattle.std.proofs.Common.{◌≡◌, ap, sym, subst, ◌∙◌}
+use Rattle.std.proofs.Common.{ap, sym, subst, ◌∙◌}
 use Rattle.ps_language.specs.Value.{What}
 use Rattle.ps_mem.specs.Heap.{birth_at}
 use Rattle.ps_text.proofs.Shown.{known_content, what_is, within_content}

@@ -1,5 +1,4 @@
 use Rattle.std.proofs.Common.{List, ℕ, ap, sym, ◌∙◌}
-use Rattle.std.specs.Prelude.{length, nat_le}
 use Rattle.ps_ctx_readers.specs.Values.{written}
 use Rattle.ps_ctx_readers.proofs.Valued.{written_whole}
 use Rattle.ps_ctx_readers.proofs.values.write_part.Goals as goal
