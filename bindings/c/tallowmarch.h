@@ -190,7 +190,7 @@ typedef struct tallowmarch_place {
 } tallowmarch_place;
 
 /* Tells where a context raised its last error under the steps of a schedule of `given_length` entries, from a run of this program by whatever
- * settings; also an error that was caught. For this the steps are made again, over memory that grows and is never collected, so a call takes several
+ * settings; also an error that was caught. For this the steps are made again, over memory that grows and is never collected, so a call takes some ten
  * times as long as the run. Of the settings here only `output` and `keys` count.
  *
  * 0: the place is told. TALLOWMARCH_NO_VALUE: the context raised no error, or isn't left behind the steps. TALLOWMARCH_BAD_ENTRY: one of the entries

@@ -40,6 +40,7 @@ enum class Outcome {
 
 // Why there is no run: `code` is TALLOWMARCH_OUT_OF_RANGE, TALLOWMARCH_NO_ROOM, TALLOWMARCH_OTHER_SCHEDULE, TALLOWMARCH_BAD_ENTRY or
 // TALLOWMARCH_CLOSED, and 0 where the library is of another version. TALLOWMARCH_NO_CONTEXT: a context isn't there that is asked for a value.
+// TALLOWMARCH_TOO_LARGE: the run is too large to be made again, where the place of an error is asked for.
 class Error : public std::runtime_error {
 public:
     explicit Error(std::uint32_t code)
@@ -86,6 +87,14 @@ struct Value {
     std::int64_t number = 0;   // an integer; of a boolean 1 or 0; of any other value 0
     std::uint64_t length = 0;  // the bytes of a string, name or operator's name; the elements of an array; the pairs of a dictionary; else 0
     std::string bytes;         // of a string, name or operator's name; else empty
+};
+
+// Where an error was raised.
+struct ErrorPlace {
+    std::uint64_t step;        // the number of the step in the run's schedule, from 1
+    std::uint64_t line = 0;    // the line and the column in the program, from 1; a column is a byte. Both are 0 where what raised it doesn't stand there
+    std::uint64_t column = 0;
+    std::uint64_t offset = 0;  // the byte of the program, from 0; 0 too where it doesn't stand there
 };
 
 // What a run came to.
@@ -360,6 +369,21 @@ public:
     // printed. Of these settings the bound on the output alone counts. With Outcome::memory the report has the schedule as far as it was followed.
     // Throws Error where the schedule has an entry that is none, and as run does.
     Report replay(const Schedule &given) const { return from(tallowmarch_replay, given); }
+
+    // Where a context raised its last error under the steps of a schedule of a run of this program, by whatever settings; also an error that was
+    // caught. Nothing where it raised none, or isn't left behind the steps. The steps are made again, which takes some ten times as long as the
+    // run. Throws Error where an entry is none, where there is no memory, and with TALLOWMARCH_TOO_LARGE where the run is too large for that.
+    std::optional<ErrorPlace> error_place(const Schedule &given, std::uint32_t context = 1) const {
+        detail::fit();
+        const Entry none{};
+        const Entry *entries = given.empty() ? &none : given.data();
+        tallowmarch_place place{};
+        const std::uint32_t code = tallowmarch_error_place(detail::bytes_of(program_), program_.size(), TALLOWMARCH_NUMBERS(settings_), entries,
+                                                           given.size(), context, &place);
+        if (code == TALLOWMARCH_NO_VALUE) return std::nullopt;
+        if (code) throw Error(code);
+        return ErrorPlace{place.step, place.line, place.column, place.offset};
+    }
 
     // Starts a run that stands between calls, before its first step; it has a copy of the program. Its space is collected, and the steps of these
     // settings don't count, since each slice has its own. Throws Error where there is none.

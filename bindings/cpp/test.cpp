@@ -44,6 +44,13 @@ int main() {
     const auto again = Run(contexts).replay(made.schedule);
     count(again.printed == made.printed && again.steps == made.steps && again.schedule.size() == made.schedule.size(), "a replay");
     count(Run("1 =").replay({}).outcome == Outcome::steps_out, "a replay of no step");
+    const Run faulty("1 0\n  idiv");
+    const auto place = faulty.error_place(faulty.run().schedule);
+    count(place && place->step == 3 && place->line == 2 && place->column == 3 && place->offset == 6, "the place of an error");
+    count(!Run("1 =").error_place(Run("1 =").run().schedule) && !faulty.error_place({}) && !faulty.error_place({}, 2), "the place of no error");
+    const Run built("[(x) 0 /idiv cvx] cvx exec");
+    const auto nowhere = built.error_place(built.run().schedule);
+    count(nowhere && nowhere->step > 1 && nowhere->line == 1, "the place of what calls an array that was built");
     count(code_of(Run("").space(1)) == TALLOWMARCH_OUT_OF_RANGE && code_of(Run("").quantum(0)) == TALLOWMARCH_OUT_OF_RANGE, "a range");
     const auto cut = Run(contexts).quantum(3).steps(150).run(), whole = Run(contexts).quantum(3).run();
     const auto further = Run(contexts).quantum(3).go_on(cut.schedule);

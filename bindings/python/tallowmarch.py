@@ -76,6 +76,10 @@ class LongString(Error, ValueError):
     """The string has more than 65,535 bytes."""
 
 
+class TooLarge(Error, MemoryError):
+    """The run takes more words in all than memory that grows has, so it can't be made again."""
+
+
 class Kind(enum.Enum):
     """What a value is."""
     INTEGER = 1
@@ -106,6 +110,14 @@ class Entry(typing.NamedTuple):
     steps: int  #: how many steps, at least 1
     refused: bool = False  #: whether the last step finds no memory for an object
     shown: typing.Optional[typing.Tuple[int, int]] = None  #: what a vmstatus in the last step shows: words used, words there are, from 1
+
+
+class ErrorPlace(typing.NamedTuple):
+    """Where an error was raised."""
+    step: int  #: the number of the step in the run's schedule, from 1
+    line: typing.Optional[int]  #: the line and the column in the program, from 1; a column is a byte. None where what raised it doesn't stand there
+    column: typing.Optional[int]
+    offset: typing.Optional[int]  #: the byte of the program, from 0; None too where it doesn't stand there
 
 
 class Counts(typing.NamedTuple):
@@ -148,6 +160,10 @@ class _Standing(ctypes.Structure):
     _fields_ = [('at', ctypes.c_void_p), ('full', ctypes.c_uint32)]
 
 
+class _Place(ctypes.Structure):
+    _fields_ = [(it, ctypes.c_uint64) for it in ErrorPlace._fields]
+
+
 class _Value(ctypes.Structure):
     _fields_ = [('kind', ctypes.c_uint32), ('executable', ctypes.c_uint32), ('number', ctypes.c_int64), ('length', ctypes.c_uint64)]
 
@@ -179,6 +195,8 @@ def _load():
     library.tallowmarch_run.argtypes = [*asked, *rooms]
     library.tallowmarch_go_on.argtypes = library.tallowmarch_replay.argtypes = [*asked, *given, *rooms]
     handle, u32 = pointer(_Standing), ctypes.c_uint32
+    library.tallowmarch_error_place.restype = u32
+    library.tallowmarch_error_place.argtypes = [*asked, *given, u32, pointer(_Place)]
     told, text = [pointer(_Value), pointer(ctypes.c_char), size], [pointer(ctypes.c_char), size, pointer(ctypes.c_uint64)]
     for name, gives, takes in (('start', u32, [*asked, handle]), ('advance', u32, [handle, u32]),
                                ('printed', size, [handle, size, pointer(ctypes.c_char), size]), ('entries', size, [handle, size, pointer(_Entry), size]),
@@ -196,7 +214,8 @@ _LIBRARY = _load()
 _ERRORS = {16: OutOfRange('a number of the settings is out of its range'), 17: NoRoom('out of memory'),
            18: OtherSchedule('the schedule is not that of a run by these settings'), 19: BadEntry('an entry of the schedule is none'),
            20: Closed('no run stands'), 22: NoContext('no context has this identifier'),
-           25: BadName('the name is none that a program can have'), 26: LongString('the string is too long')}
+           25: BadName('the name is none that a program can have'), 26: LongString('the string is too long'),
+           27: TooLarge('the run is too large to be made again')}
 
 
 def _unless_error(code):
@@ -329,6 +348,28 @@ def replay(program: bytes, schedule: typing.Sequence[Entry], *, output: int = 0,
     """
     program, settings, given = bytes(program), _settings(keys, False, output=output), _entries(schedule)
     return _with_rooms(rooms, lambda *made: _LIBRARY.tallowmarch_replay(program, len(program), *_numbers(settings), given, len(schedule), *made))
+
+
+def error_place(program: bytes, schedule: typing.Sequence[Entry], *, context: int = 1) -> typing.Optional[ErrorPlace]:
+    """Where a context raised its last error under the steps of a schedule of a run of this program, by whatever numbers; also an error that was caught.
+
+    None where it raised none, or isn't left behind the steps. The steps are made again, which takes some ten times as long as the run. Raises TooLarge
+    where the run takes more words in all than memory that grows has, and BadEntry or NoRoom as a replay does.
+
+    >>> report = run(b'1 0\\n  idiv')
+    >>> error_place(b'1 0\\n  idiv', report.schedule)
+    ErrorPlace(step=3, line=2, column=3, offset=6)
+    >>> error_place(b'1 =', run(b'1 =').schedule) is None
+    True
+    """
+    program, settings, given, place = bytes(program), _settings(None, False), _entries(schedule), _Place()
+    _within(context=context)
+    code = _unless_error(_LIBRARY.tallowmarch_error_place(program, len(program), *_numbers(settings), given, len(schedule), context, place))
+    if code == 23:
+        return None
+    if place.line == 0:
+        return ErrorPlace(place.step, None, None, None)
+    return ErrorPlace(place.step, place.line, place.column, place.offset)
 
 
 def definition(name: bytes, value: typing.Union[int, bytes]) -> bytes:

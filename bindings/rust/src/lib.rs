@@ -228,6 +228,49 @@ impl<'a> Run<'a> {
     pub fn replay(&self, schedule: &Schedule) -> Result<Report, Error> {
         raw::replay(self.program, &self.settings, &schedule.0, self.rooms)
     }
+
+    /// Where a context raised its last error under the steps of a schedule of a run of this program, by whatever settings; also an error that was
+    /// caught. Nothing where it raised none, or isn't left behind the steps. The steps are made again, which takes some ten times as long as the run.
+    ///
+    /// # Errors
+    ///
+    /// [`Error::TooLarge`] where the run takes more words in all than memory that grows has, [`Error::BadEntry`] and [`Error::NoRoom`] as for
+    /// [`Run::replay`].
+    ///
+    /// ```
+    /// use tallowmarch::{Entry, Error, Position, Run, Schedule};
+    ///
+    /// let run = Run::new(b"1 0\n  idiv");
+    /// let place = run.error_place(&run.run()?.schedule, 1)?.unwrap();
+    /// assert_eq!((place.step, place.position), (3, Some(Position { line: 2, column: 3, offset: 6 })));
+    /// assert_eq!(run.error_place(&Schedule::default(), 1)?, None);
+    /// let nobody: Schedule = [Entry { context: 0, steps: 1, refused: false, shown: None }].into_iter().collect();
+    /// assert_eq!(run.error_place(&nobody, 1), Err(Error::BadEntry));
+    /// # Ok::<(), Error>(())
+    /// ```
+    pub fn error_place(&self, schedule: &Schedule, context: u32) -> Result<Option<ErrorPlace>, Error> {
+        raw::error_place(self.program, &self.settings, &schedule.0, context)
+    }
+}
+
+/// Where an error was raised.
+#[derive(Clone, Copy, Debug, PartialEq, Eq, Hash)]
+pub struct ErrorPlace {
+    /// The number of the step in the run's schedule, from 1.
+    pub step: u64,
+    /// Where what raised it stands in the program; nothing where it doesn't stand there.
+    pub position: Option<Position>,
+}
+
+/// A place in a program.
+#[derive(Clone, Copy, Debug, PartialEq, Eq, Hash)]
+pub struct Position {
+    /// The line, from 1.
+    pub line: u64,
+    /// The column, a byte of the line, from 1.
+    pub column: u64,
+    /// The byte of the program, from 0.
+    pub offset: u64,
 }
 
 /// What a run came to.
@@ -279,6 +322,8 @@ pub enum Error {
     BadName,
     /// The string has more than 65,535 bytes.
     LongString,
+    /// The run takes more words in all than memory that grows has, so it can't be made again.
+    TooLarge,
     /// The library is of another version than this crate.
     Version,
 }
@@ -293,6 +338,7 @@ impl fmt::Display for Error {
             Error::NoContext => "no context has this identifier",
             Error::BadName => "the name is none that a program can have",
             Error::LongString => "the string is too long",
+            Error::TooLarge => "the run is too large to be made again",
             Error::Version => "libtallowmarch is of another version",
         })
     }

@@ -4,7 +4,7 @@ use std::ffi::c_void;
 use std::mem::size_of;
 use std::ptr::null_mut;
 
-use crate::{random, Defined, Error, Outcome, Report, Schedule};
+use crate::{random, Defined, Error, ErrorPlace, Outcome, Position, Report, Schedule};
 
 /// The version of `tallowmarch.h` that these types are of.
 const VERSION: u32 = 400;
@@ -97,6 +97,15 @@ pub(crate) struct Value {
     pub(crate) length: u64,
 }
 
+#[repr(C)]
+#[derive(Clone, Copy, Default)]
+struct RaisedAt {
+    step: u64,
+    line: u64,
+    column: u64,
+    offset: u64,
+}
+
 /// Where a run has a value.
 #[derive(Clone, Copy)]
 pub(crate) enum Place<'a> {
@@ -152,6 +161,19 @@ extern "C" {
         schedule_room: usize,
         counts: *mut u64,
         counts_room: usize,
+    ) -> u32;
+}
+
+extern "C" {
+    fn tallowmarch_error_place(
+        program: *const u8,
+        length: usize,
+        settings: *const u64,
+        settings_known: usize,
+        given: *const Entry,
+        given_length: usize,
+        context: u32,
+        place: *mut RaisedAt,
     ) -> u32;
 }
 
@@ -418,6 +440,36 @@ fn outcome_of(code: u32) -> Result<Outcome, Error> {
         17 => Err(Error::NoRoom),
         18 => Err(Error::OtherSchedule),
         19 => Err(Error::BadEntry),
+        27 => Err(Error::TooLarge),
         _ => Err(Error::Version),
     }
+}
+
+/// Where a context raised its last error under the steps of a schedule; nothing where it raised none.
+pub(crate) fn error_place(program: &[u8], settings: &Settings, given: &[Entry], context: u32) -> Result<Option<ErrorPlace>, Error> {
+    // SAFETY: it takes nothing, and is of every version.
+    if !fits(unsafe { tallowmarch_version() }) {
+        return Err(Error::Version);
+    }
+    let mut place = RaisedAt::default();
+    // SAFETY: each pointer is of a reference or a slice, so it isn't null and leads to as many items as are told.
+    let code = unsafe {
+        tallowmarch_error_place(
+            program.as_ptr(),
+            program.len(),
+            settings.numbers(),
+            Settings::KNOWN,
+            given.as_ptr(),
+            given.len(),
+            context,
+            &mut place,
+        )
+    };
+    if code == 23 {
+        return Ok(None);
+    }
+    outcome_of(code)?;
+    let RaisedAt { step, line, column, offset } = place;
+    let position = (line != 0).then_some(Position { line, column, offset });
+    Ok(Some(ErrorPlace { step, position }))
 }
