@@ -272,11 +272,3 @@ pub within_all : (f : ℕ → List ℕ) (all front rest : List ℕ) (number left
 within_all f all front rest number left e r n =
     n ∙ ap (λ places. length (flat_map f places) + left)
     (sym (e ∙ ap (λ x. front ++ x) r ∙ append-nil front))
-
--- the number of what is found lies within a list
-pub found_below : (objects : List ℕ) (number place : ℕ) → slice_get objects number ≡ Some place
-    → number < length objects
-found_below [] number place is = cc
-found_below (one ∷ objects) zero place is = omega arith
-found_below (one ∷ objects) (suc number) place is =
-    let within = found_below objects number place is in omega (arith, within)

@@ -120,8 +120,11 @@ fn append_mixed(bytes: &[u8], end: usize, output: &mut Vec<u8>) -> Result<(), Al
     Ok(())
 }
 
-/// Appends bytes of a string with their escapes, as far as they fit; at once where none has one.
-fn append_block(bytes: &[u8], end: usize, output: &mut Vec<u8>) -> Result<(), AllocError>
+/// Appends bytes of a string with their escapes, as far as they fit before `end`; at once where none
+/// has one.
+///
+/// `AllocError`: a growth was refused; what stood before stays.
+pub fn append_escapes(bytes: &[u8], end: usize, output: &mut Vec<u8>) -> Result<(), AllocError>
     requires { length output.old.items ≤ end }
     ensures goes_on { GoesOn end output.old.items output.new.items }
     ensures capacity { vec_capacity output.old ≤ vec_capacity output.new }
@@ -171,7 +174,7 @@ fn append_escaped<M: Memory>(
         let count = (part.length - index).min(BLOCK as u16);
         let bytes = &mut block[..count as usize];
         read_part(memory, interval(part, index, count), bytes);
-        append_block(bytes, end, output)?;
+        append_escapes(bytes, end, output)?;
         index += count;
     }
     Ok(())

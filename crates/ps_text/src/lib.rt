@@ -18,3 +18,5 @@ pub mod full;
 pub mod lines;
 pub mod outputs;
 pub mod plain;
+
+pub use escapes::append_escapes;

@@ -39,7 +39,7 @@ loop-index-preserved g c =
     let n = c.min-count.result in
     let least = c.min-count.ensures in
     let below = c.loop-index-test.true in
-    let grown = c.append_block.ensures.capacity in
+    let grown = c.append_escapes.ensures.capacity in
     let before = c.loop-index.invariant.capacity in
     let read = c.read_part.new.text in
     let inside : i + n ≤ p.length = omega (arith, least, below) in
@@ -48,7 +48,7 @@ loop-index-preserved g c =
       grants = c.read_part.ensures.grants ∙ c.loop-index.invariant.grants;
       within = inside;
       goes_on = goes_further _ _ _ _ c.loop-index.invariant.goes_on
-          c.append_block.ensures.goes_on;
+          c.append_escapes.ensures.goes_on;
       capacity = omega (arith, grown, before);
       rest = λ names s shows within.
           shown_step (bytes s (birth_at h p.address)) p.offset p.length i n within inside read
@@ -56,11 +56,11 @@ loop-index-preserved g c =
           c.loop-index.invariant.heap c.interval.ensures inside read
           (c.read_part.ensures.value names s) shows within) refl c.args.end _
           c.loop-index.output.items (c.loop-index.invariant.rest names s shows within) _
-          c.in_ok-append_block.ensures.ok;
+          c.in_ok-append_escapes.ensures.ok;
     }
 
-pub returns-in_err-append_block-clause-full : goal.returns-in_err-append_block-clause-full
-returns-in_err-append_block-clause-full g c = λ names s shows within.
+pub returns-in_err-append_escapes-clause-full : goal.returns-in_err-append_escapes-clause-full
+returns-in_err-append_escapes-clause-full g c = λ names s shows within.
     let h = g.M.Memory.heap c.args.memory.now in
     let p = c.args.part in
     let i = c.loop-index.index in
@@ -68,7 +68,7 @@ returns-in_err-append_block-clause-full g c = λ names s shows within.
     let least = c.min-count.ensures in
     let below = c.loop-index-test.true in
     let before = c.loop-index.invariant.capacity in
-    let full = c.in_err-append_block.ensures.full in
+    let full = c.in_err-append_escapes.ensures.full in
     let read = c.read_part.new.text in
     let inside : i + n ≤ p.length = omega (arith, least, below) in
     err_given _ c.from_residual.result

@@ -1,6 +1,6 @@
 use Rattle.std.proofs.Common.{◌≡◌, ◌<◌, List, ℕ, ◌++◌, length, take, sym, subst}
 use Rattle.std.specs.Prelude.{OnOk, OnErr, vec_capacity}
-use Rattle.ps_text.proofs.escapes.append_block.Goals as goal
+use Rattle.ps_text.proofs.escapes.append_escapes.Goals as goal
 
 pub returns-then-are_plain-clause-ok : goal.returns-then-are_plain-clause-ok
 returns-then-are_plain-clause-ok c =
