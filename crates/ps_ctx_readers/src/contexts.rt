@@ -25,6 +25,8 @@ use ps_ctx_table::contexts::Contexts;
 use ps_ctx_table::members::Course;
 use ps_mem::Memory;
 use ps_ops_state::lent::Runtime;
+use ps_step_outcome::breaks::has_new_error;
+use ps_step_outcome::notes::error_keys;
 use ps_word::words::Word;
 
 /// How far a context is; nothing of one that isn't there.
@@ -77,6 +79,9 @@ pub fn last_error_at<M: Memory>(
     ensures shared { runtime.new.shared ≡ runtime.old.shared }
     ensures held { IfSome result (λ error. IfSome error.name (IsValue (M.heap runtime.old.memory))
         × IfSome error.command (IsValue (M.heap runtime.old.memory))) }
+    ensures within { (w : World) → IsWorld (over_of M.heap M.grants runtime.old contexts.now) w
+        → IfSome result (λ error. IfSome error.name
+        (IsWithin (birth_at (M.heap runtime.old.memory)) runtime.old.shared.names w.store)) }
     ensures name { (w : World) → IsWorld (over_of M.heap M.grants runtime.old contexts.now) w
         → option_and_then (λ error. option_map
         (value_of (birth_at (M.heap runtime.old.memory)) runtime.old.shared.names) error.name)
@@ -90,6 +95,30 @@ pub fn last_error_at<M: Memory>(
         return None;
     };
     Some(last_error(&mut runtime.memory, member.context.error_dictionary))
+}
+
+/// Whether the last error of a context is new, as its `$error` has it; no error is, of one that isn't
+/// there. The memory is only read.
+pub fn has_new_error_at<M: Memory>(
+    contexts: &Contexts,
+    identifier: u32,
+    runtime: &mut Runtime<M>,
+) -> bool
+    requires steady { IsSteady (over_of M.heap M.grants runtime.old contexts.now) }
+    ensures heap { M.heap runtime.new.memory ≡ M.heap runtime.old.memory }
+    ensures grants { M.grants runtime.new.memory ≡ M.grants runtime.old.memory }
+    ensures shared { runtime.new.shared ≡ runtime.old.shared }
+    ensures new { (w : World) → IsWorld (over_of M.heap M.grants runtime.old contexts.now) w
+        → result ≡ errors.has_new_error_at w identifier }
+{
+    let Some(member) = contexts.table.get(identifier) else {
+        return false;
+    };
+    has_new_error(
+        &mut runtime.memory,
+        member.context.error_dictionary,
+        error_keys(),
+    )
 }
 
 /// The name under which a context has a procedure of the object of a birth number, if it has one.

@@ -44,3 +44,7 @@ returns-clause-command g c = λ w is.
     c.requires.steady.names.different is.shows
     ∙ of_there _ w is c.args.identifier (entry_in command_key w.store) c.in-Some.member.now
     c.in-Some.ensures.item
+
+pub returns-clause-within : goal.returns-clause-within
+returns-clause-within g c = λ w is.
+    c.last_error.ensures.within_name c.args.runtime.now.shared.names w.store is.shows
