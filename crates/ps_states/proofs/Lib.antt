@@ -1,5 +1,6 @@
 mod Examples
 mod StepExamples
+pub mod Beside
 pub mod Calling
 pub mod Each
 pub mod Lines

@@ -99,24 +99,21 @@ lines_in chart now identifier one =
 
 -- ---- the locks that a context has
 
--- of the lock of a frame, where the context has it: while it waits for a condition it hasn't
-abbrev pub with_held : Store → (identifier : ℕ) → (ℕ → List ℕ) → Frame → List ℕ
-with_held store identifier text (monitor_frame lock) =
-    if is_owner identifier (owner_of store lock) then text lock else []
-with_held store identifier text frame = []
+-- the birth number of the lock of a frame, where the context has it: while it waits for a condition
+-- it hasn't
+abbrev pub held_lock : Store → (identifier : ℕ) → Frame → List ℕ
+held_lock store identifier (monitor_frame lock) =
+    if is_owner identifier (owner_of store lock) then lock ∷ [] else []
+held_lock store identifier frame = []
 
--- their birth numbers, the outermost first
+-- of all of them, the outermost first
 unfoldable pub locks_of : Store → (identifier : ℕ) → Context → List ℕ
-locks_of store identifier one =
-    flat_map (with_held store identifier (λ lock. lock ∷ [])) (reverse one.frames)
+locks_of store identifier one = flat_map (held_lock store identifier) (reverse one.frames)
 
 -- a line each
-abbrev pub held_line : Store → (identifier : ℕ) → Frame → List ℕ
-held_line store identifier frame =
-    with_held store identifier (λ lock. lock_text lock identifier) frame
-
 abbrev pub lock_lines : Store → (identifier : ℕ) → Context → List ℕ
-lock_lines store identifier one = flat_map (held_line store identifier) (reverse one.frames)
+lock_lines store identifier one =
+    flat_map (λ lock. lock_text lock identifier) (locks_of store identifier one)
 
 -- ---- all of it
 

@@ -1,4 +1,5 @@
-//! What a run shows of itself behind so many steps: the state of its world as text.
+//! What a run shows of itself: the state of its world behind so many steps, and the line of a step,
+//! as text.
 //!
 //! Why so:
 //! - The text is a function of the world, of the places in its program and of the number of the
@@ -14,10 +15,14 @@ mod contexts;
 mod frames;
 mod locks;
 mod next;
+mod operands;
+mod remarks;
 mod stacks;
 mod states;
 mod statuses;
+mod steps;
 mod values;
 
 pub use charts::Chart;
 pub use states::{Crowd, StepCount, append_state};
+pub use steps::{Known, StepBy, append_step, known_of};

@@ -45,7 +45,7 @@ pub(crate) struct Next {
 }
 
 /// What is no value.
-fn bare(alloc: Global, coming: Coming) -> Next
+pub(crate) fn bare(alloc: Global, coming: Coming) -> Next
     ensures { next_shown result ≡ spec.bare coming }
 {
     Next {

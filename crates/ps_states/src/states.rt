@@ -1,6 +1,6 @@
 //! The state of a run, as text.
 
-ghost use Rattle.std.specs.Prelude.{◌≡◌, ◌<◌, ◌++◌, ◌==◌, [], count_by, OnOk};
+ghost use Rattle.std.specs.Prelude.{◌≡◌, ◌++◌, ◌==◌, [], count_by, OnOk};
 ghost use Rattle.std.specs.Option.{option_map_or};
 ghost use Rattle.ps_language.specs.Contexts.{context_at};
 ghost use Rattle.ps_language.specs.World.{World};
@@ -17,7 +17,7 @@ use ps_ctx_table::contexts::Contexts;
 use ps_mem::Memory;
 use ps_ops_state::lent::Runtime;
 use ps_views::{StateHead, append_head};
-use std::alloc::AllocError;
+use std::alloc::{AllocError, Global};
 
 /// All contexts of a run, and who tells which of them may go on.
 #[derive(Clone, Copy)]
@@ -114,12 +114,12 @@ fn append_contexts<M: Memory, D: Deeds>(
 /// Appends the lines of the locks that the context of an identifier has, where it is there. The
 /// memory is only read.
 fn append_locks_at<M: Memory>(
+    alloc: Global,
     contexts: &Contexts,
     identifier: u32,
     runtime: &mut Runtime<M>,
     to: &mut Vec<u8>,
 ) -> Result<(), AllocError>
-    requires identifier { 0 < identifier }
     requires steady { IsSteady (over_of M.heap M.grants runtime.old contexts.now) }
     ensures heap { M.heap runtime.new.memory ≡ M.heap runtime.old.memory }
     ensures grants { M.grants runtime.new.memory ≡ M.grants runtime.old.memory }
@@ -131,12 +131,13 @@ fn append_locks_at<M: Memory>(
     let Some(member) = contexts.table.get(identifier) else {
         return Ok(());
     };
-    append_locks(identifier, member, &mut runtime.memory, to)
+    append_locks(alloc, identifier, member, &mut runtime.memory, to)
 }
 
 /// Appends the lines of the locks that contexts have, by rising identifiers of these. The memory is
 /// only read.
 fn append_all_locks<M: Memory>(
+    alloc: Global,
     contexts: &Contexts,
     runtime: &mut Runtime<M>,
     to: &mut Vec<u8>,
@@ -150,7 +151,7 @@ fn append_all_locks<M: Memory>(
         (states.lock_lines w.store) 1 w.contexts) }
 {
     for place in 0..contexts.table.made() {
-        append_locks_at(contexts, place + 1, runtime, to)?;
+        append_locks_at(alloc, contexts, place + 1, runtime, to)?;
     }
     Ok(())
 }
@@ -180,5 +181,5 @@ pub fn append_state<M: Memory, D: Deeds>(
 {
     append_first(count, runtime, to)?;
     append_contexts(chart, crowd, runtime, to)?;
-    append_all_locks(crowd.contexts, runtime, to)
+    append_all_locks(chart.alloc, crowd.contexts, runtime, to)
 }

@@ -3,9 +3,11 @@ use Rattle.ps_states.specs.States.{lock_lines}
 use Rattle.ps_states.proofs.Each.{each_more, each_told, made_all}
 use Rattle.ps_states.proofs.states.append_all_locks.Goals as goal
 
-pub append_locks_at-requires-clause-steady : goal.append_locks_at-requires-clause-steady
-append_locks_at-requires-clause-steady g c =
-    rw (c.loop-place.invariant.heap, c.loop-place.invariant.grants, c.loop-place.invariant.shared) c.requires.steady
+pub append_locks_at-requires : goal.append_locks_at-requires
+append_locks_at-requires g c = record {
+  steady = rw (c.loop-place.invariant.heap, c.loop-place.invariant.grants, c.loop-place.invariant.shared)
+      c.requires.steady;
+}
 
 pub loop-place-preserved : goal.loop-place-preserved
 loop-place-preserved g c =
