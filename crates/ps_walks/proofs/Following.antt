@@ -1,8 +1,10 @@
 -- The steps of an entry, one behind another.
 use Rattle.std.proofs.Common.{◌≡◌, ◌≢◌, ℕ, zero, suc, ◌+◌, ◌-◌, ◌<◌, ◌≤◌, List, [], ◌∷◌, ◌++◌, Bool, true, false, refl, sym, ap, ◌∙◌, arith, inl, inr}
-use Rattle.std.proofs.lemmas.Bool.Decides.{eqb_tells, nat_tests}
-use Rattle.std.proofs.lemmas.List.{replicate_more}
-use Rattle.std.specs.Prelude.{◌==◌, nat_lt, replicate, if◌then◌else◌}
+use Rattle.std.proofs.lemmas.Bool.{eq-eqb, le-ltb, lt-ltb, ne_eqb}
+use Rattle.std.proofs.lemmas.Bool.Decides.{eqb_tells}
+use Rattle.std.proofs.lemmas.List.{length-append, length-replicate, replicate_more, take-append-le, take-replicate}
+use Rattle.std.proofs.Math.Seq.{take-append-add}
+use Rattle.std.specs.Prelude.{◌==◌, length, nat_lt, replicate, take, if◌then◌else◌}
 use Rattle.ps_language.specs.declared.schedules.Entry.{Entry}
 use Rattle.ps_language.specs.Schedules.{Move, last_move, moves, moves_of, plain_move}
 use Rattle.ps_language.specs.World.{World}
@@ -53,30 +55,18 @@ abbrev pub move_behind : Entry → (steps number : ℕ) → Move
 move_behind entry steps number =
     if number + 1 == steps then last_move entry else plain_move entry.context
 
-below_test : (m n : ℕ) → m < n → nat_lt m n ≡ true
-below_test m n h = grind (arith, nat_tests)
-
-past_test : (m n : ℕ) → n ≤ m → nat_lt m n ≡ false
-past_test m n h = grind (arith, nat_tests)
-
-same_test : (m n : ℕ) → m ≡ n → (m == n) ≡ true
-same_test m n h = grind (arith, nat_tests)
-
-other_test : (m n : ℕ) → m ≢ n → (m == n) ≡ false
-other_test m n h = grind (arith, nat_tests)
-
 module _ (entry : Entry) where
   first_below : (steps number : ℕ) → number < steps
       → first_moves entry steps number ≡ replicate number (plain_move entry.context)
   first_below steps number below =
       ap (λ (is : Bool). if is then replicate number (plain_move entry.context)
-      else moves_of entry steps) (below_test number steps below)
+      else moves_of entry steps) (lt-ltb number steps below)
 
   pub first_all : (steps number : ℕ) → steps ≤ number
       → first_moves entry steps number ≡ moves_of entry steps
   first_all steps number all =
       ap (λ (is : Bool). if is then replicate number (plain_move entry.context)
-      else moves_of entry steps) (past_test number steps all)
+      else moves_of entry steps) (le-ltb number steps all)
 
   pub first_none : (steps : ℕ) → first_moves entry steps 0 ≡ []
   first_none zero = first_all 0 0 (omega arith)
@@ -86,13 +76,13 @@ module _ (entry : Entry) where
       → move_behind entry steps number ≡ last_move entry
   move_last steps number is =
       ap (λ (is : Bool). if is then last_move entry else plain_move entry.context)
-      (same_test (number + 1) steps is)
+      (eq-eqb (number + 1) steps is)
 
   move_plain : (steps number : ℕ) → number + 1 ≢ steps
       → move_behind entry steps number ≡ plain_move entry.context
   move_plain steps number isnt =
       ap (λ (is : Bool). if is then last_move entry else plain_move entry.context)
-      (other_test (number + 1) steps isnt)
+      (ne_eqb (number + 1) steps isnt)
 
   pub first_more : (steps number : ℕ) → number < steps
       → first_moves entry steps number ++ move_behind entry steps number ∷ []
@@ -138,8 +128,8 @@ idle_move x move context same idle =
 module _ (w : World) (entry : Entry) (steps number : ℕ) (below : number < steps)
     (idle : is_ready (without_lines (walked_all w (first_moves entry steps number))) entry.context
     ≡ false) where
-  abbrev pub before : World
-  before = walked_all w (first_moves entry steps number)
+  abbrev pub world_before : World
+  world_before = walked_all w (first_moves entry steps number)
 
   next_is : (at : ℕ) → at < steps → walked_all w (first_moves entry steps (at + 1))
       ≡ walked (walked_all w (first_moves entry steps at)) (move_behind entry steps at)
@@ -147,13 +137,13 @@ module _ (w : World) (entry : Entry) (steps number : ℕ) (below : number < step
       ap (walked_all w) (sym (first_more entry steps at within))
       ∙ walked_more w (first_moves entry steps at) (move_behind entry steps at)
 
-  first_idle : walked_all w (first_moves entry steps (number + 1)) ≡ without_lines before
+  first_idle : walked_all w (first_moves entry steps (number + 1)) ≡ without_lines world_before
   first_idle = next_is number below
-      ∙ idle_move before (move_behind entry steps number) entry.context
+      ∙ idle_move world_before (move_behind entry steps number) entry.context
       (move_context entry steps number) idle
 
   later : (more : ℕ) → number + 1 + more ≤ steps
-      → walked_all w (first_moves entry steps (number + 1 + more)) ≡ without_lines before
+      → walked_all w (first_moves entry steps (number + 1 + more)) ≡ without_lines world_before
   later zero within =
       let none : number + 1 + 0 ≡ number + 1 = omega arith in
       ap (λ n. walked_all w (first_moves entry steps n)) none ∙ first_idle
@@ -163,15 +153,87 @@ module _ (w : World) (entry : Entry) (steps number : ℕ) (below : number < step
       ap (λ n. walked_all w (first_moves entry steps n)) next
       ∙ next_is at (omega (arith, within))
       ∙ ap (λ x. walked x (move_behind entry steps at)) (later more (omega (arith, within)))
-      ∙ idle_move (without_lines before) (move_behind entry steps at) entry.context
+      ∙ idle_move (without_lines world_before) (move_behind entry steps at) entry.context
       (move_context entry steps at) idle
 
-  pub idle_entry : walked before (move_behind entry steps number)
+  pub idle_entry : walked world_before (move_behind entry steps number)
       ≡ walked_all w (moves_of entry steps)
   idle_entry =
       let whole : number + 1 + (steps - (number + 1)) ≡ steps = omega (arith, below) in
-      idle_move before (move_behind entry steps number) entry.context
+      idle_move world_before (move_behind entry steps number) entry.context
       (move_context entry steps number) idle
       ∙ sym (later (steps - (number + 1)) (omega (arith, below)))
       ∙ ap (λ n. walked_all w (first_moves entry steps n)) whole
       ∙ ap (walked_all w) (first_all entry steps steps (omega arith))
+
+-- ---- the first steps of a schedule
+
+length_moves : (entry : Entry) (steps : ℕ) → length (moves_of entry steps) ≡ steps
+length_moves entry zero = refl
+length_moves entry (suc before) =
+    let one : before + 1 ≡ suc before = omega arith in
+    length-append (replicate before (plain_move entry.context)) (last_move entry ∷ [])
+    ∙ ap (λ n. n + 1) (length-replicate before (plain_move entry.context)) ∙ one
+
+-- so many ordinary steps
+plain_steps : (entry : Entry) (steps : ℕ) → last_move entry ≡ plain_move entry.context
+    → moves_of entry steps ≡ replicate steps (plain_move entry.context)
+plain_steps entry zero is = refl
+plain_steps entry (suc before) is =
+    let one : before + 1 ≡ suc before = omega arith in
+    ap (λ move. replicate before (plain_move entry.context) ++ move ∷ []) is
+    ∙ replicate_more before (plain_move entry.context)
+    ∙ ap (λ n. replicate n (plain_move entry.context)) one
+
+-- the first steps of an entry that has more
+pub front_moves : (entry front : Entry) (steps more : ℕ) → front.context ≡ entry.context
+    → last_move front ≡ plain_move front.context → more < steps
+    → moves_of front more ≡ take more (moves_of entry steps)
+front_moves entry front zero more same is below = absurd (omega (arith, below))
+front_moves entry front (suc before) more same is below =
+    let plains = replicate before (plain_move entry.context) in
+    let within : more ≤ length plains =
+    omega (arith, below, length-replicate before (plain_move entry.context)) in
+    let few : more ≤ before = omega (arith, below) in
+    plain_steps front more is
+    ∙ ap (λ context. replicate more (plain_move context)) same
+    ∙ sym (take-append-le more plains (last_move entry ∷ []) within
+    ∙ take-replicate more before (plain_move entry.context) few)
+
+module _ (now : World) (entry : Entry) (left entries : List Entry) (more : ℕ)
+    (is : left ≡ entry ∷ entries) where
+  first_of : take more (moves left)
+      ≡ take more (moves_of entry entry.steps ++ moves entries)
+  unfolding moves
+  first_of = ap (λ list. take more (moves list)) is
+
+  pub entry_front : more < entry.steps → walked_all now (take more (moves_of entry entry.steps))
+      ≡ walked_all now (take more (moves left))
+  entry_front below =
+      let within : more ≤ length (moves_of entry entry.steps) =
+      omega (arith, below, length_moves entry entry.steps) in
+      ap (walked_all now) (sym (first_of
+      ∙ take-append-le more (moves_of entry entry.steps) (moves entries) within))
+
+  pub entry_whole : entry.steps ≤ more → walked_all now (take more (moves left))
+      ≡ walked_all (walked_all now (moves_of entry entry.steps))
+      (take (more - entry.steps) (moves entries))
+  entry_whole within =
+      let count : more ≡ length (moves_of entry entry.steps) + (more - entry.steps) =
+      omega (arith, within, length_moves entry entry.steps) in
+      ap (walked_all now) (first_of
+      ∙ ap (λ n. take n (moves_of entry entry.steps ++ moves entries)) count
+      ∙ take-append-add (moves_of entry entry.steps) (moves entries) (more - entry.steps))
+      ∙ walked_on now (moves_of entry entry.steps) (take (more - entry.steps) (moves entries))
+
+take_none : (n : ℕ) → take {A = Move} n [] ≡ []
+take_none zero = refl
+take_none (suc n) = refl
+
+-- none is left
+pub front_end : (now : World) (left : List Entry) (more : ℕ) → left ≡ []
+    → walked_all now (take more (moves left)) ≡ now
+unfolding moves
+front_end now left more is =
+    ap (λ list. walked_all now (take more (moves list))) is
+    ∙ ap (walked_all now) (take_none more) ∙ walked_none now

@@ -1,9 +1,10 @@
 -- A run that is made again step by step.
-use Rattle.std.specs.Prelude.{◌≡◌, ℕ, None, IfSome, List, [], ◌∷◌, if◌then◌else◌}
+use Rattle.std.specs.Prelude.{take, ◌≡◌, ℕ, None, IfSome, List, [], ◌∷◌, if◌then◌else◌}
 use Rattle.ps_language.specs.Locks.{is_ready}
-use Rattle.ps_language.specs.Schedules.{Move}
+use Rattle.ps_language.specs.declared.schedules.Entry.{Entry}
+use Rattle.ps_language.specs.Schedules.{Move, moves}
 use Rattle.ps_language.specs.World.{World}
-use Rattle.ps_language.specs.Worlds.{after_move}
+use Rattle.ps_language.specs.Worlds.{after_move, starting_world}
 use Rattle.ps_mem.specs.Heap.{Heap, Grants}
 use Rattle.ps_language.specs.declared.kinds.Kind.TheVariants.{Dictionary}
 use Rattle.ps_mem.specs.References.{StandsAs}
@@ -45,3 +46,8 @@ pub record Stands {M : Type 0} (heap : M → Heap) (grants : M → Grants) (runt
 pub record IsBefore (h : Heap) (before : Before) : Type 0 where
   pub frame : IfSome before.frame (λ frame. (size : ℕ) × IsFrame h size frame)
   pub error : IfSome before.error_dictionary (λ address. StandsAs h Dictionary address 4)
+
+-- the world behind so many steps of a program's schedule
+abbrev pub world_behind : (program : List ℕ) → (schedule : List Entry) → (steps : ℕ) → World
+world_behind program schedule steps =
+    walked_all (starting_world program) (take steps (moves schedule))

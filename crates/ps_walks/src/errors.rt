@@ -2,6 +2,7 @@
 
 ghost use Rattle.std.specs.Prelude.{◌≡◌, IfSome};
 ghost use Rattle.ps_mem.specs.Shows.{IsSound, IsValue};
+ghost use Rattle.ps_walks.specs.Errors as errors;
 
 use ps_ctx_readers::errors::LastError;
 use ps_language::errors::ErrorName;
@@ -32,7 +33,9 @@ const ERRORS: [ErrorName; 16] = [
 ];
 
 /// The error of a name, if it is one's.
-pub(crate) fn error_of(word: Option<Word>) -> Option<ErrorName> {
+pub(crate) fn error_of(word: Option<Word>) -> Option<ErrorName>
+    ensures { result ≡ errors.error_of word }
+{
     let number = word?.as_name()? as usize;
     if number < ERRORS.len() {
         Some(ERRORS[number])

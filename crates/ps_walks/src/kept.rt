@@ -27,7 +27,7 @@ use std::alloc::{AllocError, Global};
 pub(crate) struct Kept<'a> {
     /// How many steps were made.
     made: u64,
-    origins: Origins,
+    pub(crate) origins: Origins,
     /// Where the last token begins that was taken from the program.
     token: usize,
     pub(crate) seats: Seats,

@@ -25,4 +25,4 @@ mod telling;
 mod walks;
 
 pub use raised::RaisedAt;
-pub use walks::{Rerun, WalkFault, places_of, raised_at};
+pub use walks::{Rerun, WalkFault, places_of, raised_at, state_of};

@@ -1,13 +1,16 @@
 //! A run that is made again, step by step.
 
-ghost use Rattle.std.specs.Prelude.{◌≡◌, ◌+◌, ◌<◌, ◌==◌, if◌then◌else◌, true, IfOk, OnOk};
+ghost use Rattle.std.specs.Prelude.{List, take, ◌≡◌, ◌+◌, ◌<◌, ◌==◌, if◌then◌else◌, true, IfOk, OnOk};
 ghost use Rattle.ps_language.specs.Locks as locks;
 ghost use Rattle.ps_language.specs.World.{World as TheWorld};
 ghost use Rattle.ps_language.specs.Worlds.{after_move};
 ghost use Rattle.ps_ctx_table.specs.Desks.{IsWorld};
 ghost use Rattle.ps_run_schedules.specs.Turns.{move_of};
 ghost use Rattle.ps_language.specs.Schedules.{last_move, moves, moves_of, plain_move};
-ghost use Rattle.ps_walks.specs.Walks.{Stands, desk_in, walked, walked_all, without_lines};
+ghost use Rattle.ps_language.specs.Worlds.{starting_world};
+ghost use Rattle.ps_places.specs.declared.origins.Origin.{Origin};
+ghost use Rattle.ps_states.specs.States.{state_text};
+ghost use Rattle.ps_walks.specs.Walks.{Stands, desk_in, walked, walked_all, without_lines, world_behind};
 
 use crate::before::known_of;
 use crate::kept::Kept;
@@ -18,10 +21,12 @@ use ps_ctx::starts::start_world;
 use ps_ctx::worlds::World;
 use ps_ctx_start::start::Setup;
 use ps_language::schedules::Entry;
-use ps_mem::marked::plain_with_marks;
+use ps_mem::marked::{Marked, plain_with_marks};
+use ps_mem::plain::PlainMemory;
 use ps_mem::{Memory, Slot};
 use ps_ops_state::lent::{Attempt, Runtime};
 use ps_run_schedules::Entries;
+use ps_states::{Chart, Crowd, StepCount, append_state};
 use ps_step_interpreter::interprets::Interpret;
 use std::alloc::{AllocError, Global};
 use thiserror::Error;
@@ -83,12 +88,68 @@ pub fn raised_at<S: Interpret + Drop, D: Deeds + Drop>(
     Ok(kept.raised_at(context))
 }
 
+/// The text of the state of a run behind so many of the steps of a schedule, of `steps` in all. The
+/// faults are those of `places_of`.
+pub fn state_of<S: Interpret + Drop, D: Deeds + Drop>(
+    alloc: Global,
+    run: Rerun<'_, S, D>,
+    schedule: Entries<'_>,
+    count: StepCount,
+) -> Result<Vec<u8>, WalkFault>
+    ensures { IfOk result (λ text. (origins : List Origin) × (text.items ≡ state_text
+        (record { file = run.entry.file.now; program = run.entry.program.now; origins = origins })
+        (world_behind run.entry.program.now schedule.entry count.step) count.step count.steps)) }
+{
+    let program = run.program;
+    let file = run.file;
+    let mut walk = begin_walk(alloc, run)?;
+    walk.follow_front(alloc, schedule, count.step)?;
+    let Walk {
+        makers,
+        world,
+        mut runtime,
+        kept,
+    } = walk;
+    let chart = Chart {
+        alloc,
+        file,
+        program,
+        origins: &kept.origins,
+    };
+    let crowd = Crowd {
+        contexts: &world.contexts,
+        operators: &makers.operators,
+    };
+    let mut text = Vec::new(alloc);
+    match append_state(&chart, &crowd, count, &mut runtime, &mut text) {
+        Ok(()) => Ok(text),
+        Err(AllocError) => Err(WalkFault::Memory),
+    }
+}
+
 /// What is kept behind the steps of a schedule.
 fn make_walk<'a, S: Interpret + Drop, D: Deeds + Drop>(
     alloc: Global,
     run: Rerun<'a, S, D>,
     schedule: Entries<'_>,
 ) -> Result<Kept<'a>, WalkFault> {
+    let mut walk = begin_walk(alloc, run)?;
+    walk.follow_all(alloc, schedule)?;
+    let Walk { kept, .. } = walk;
+    Ok(kept)
+}
+
+/// A run before its first step.
+fn begin_walk<'a, S: Interpret + Drop, D: Deeds + Drop>(
+    alloc: Global,
+    run: Rerun<'a, S, D>,
+) -> Result<Walk<'a, Marked<PlainMemory>, S, D>, WalkFault>
+    ensures stands { IfOk result (λ walk. Stands ⟦<Marked<PlainMemory> as Memory>⟧.heap
+        ⟦<Marked<PlainMemory> as Memory>⟧.grants walk.runtime walk.world) }
+    ensures at { IfOk result (λ walk. IsWorld (desk_in ⟦<Marked<PlainMemory> as Memory>⟧.heap
+        ⟦<Marked<PlainMemory> as Memory>⟧.grants walk.runtime walk.world)
+        (starting_world run.entry.program.now)) }
+{
     let Rerun {
         makers,
         program,
@@ -99,15 +160,12 @@ fn make_walk<'a, S: Interpret + Drop, D: Deeds + Drop>(
     let Ok((world, shared)) = start_world(alloc, &mut memory, program, setup) else {
         return Err(WalkFault::Memory);
     };
-    let mut walk = Walk {
+    Ok(Walk {
         makers,
         world,
         runtime: Runtime { shared, memory },
         kept: Kept::new(alloc, file),
-    };
-    walk.follow_all(alloc, schedule)?;
-    let Walk { kept, .. } = walk;
-    Ok(kept)
+    })
 }
 
 impl<M: Memory + Drop, S: Interpret + Drop, D: Deeds + Drop> Walk<'_, M, S, D> {
@@ -123,6 +181,33 @@ impl<M: Memory + Drop, S: Interpret + Drop, D: Deeds + Drop> Walk<'_, M, S, D> {
         let mut left = schedule;
         while let Some(entry) = left.next() {
             self.follow(alloc, entry)?;
+        }
+        Ok(())
+    }
+
+    /// Makes so many of the first steps of a schedule, or all where it has fewer.
+    fn follow_front(
+        &mut self,
+        alloc: Global,
+        schedule: Entries<'_>,
+        steps: u64,
+    ) -> Result<(), WalkFault>
+        requires stands { Stands M.heap M.grants self.old.runtime self.old.world }
+        ensures stands { OnOk result (Stands M.heap M.grants self.new.runtime self.new.world) }
+        ensures walked { OnOk result ((w : TheWorld)
+            → IsWorld (desk_in M.heap M.grants self.old.runtime self.old.world) w
+            → IsWorld (desk_in M.heap M.grants self.new.runtime self.new.world)
+            (walked_all w (take steps (moves schedule.entry)))) }
+    {
+        let mut left = schedule;
+        let mut more = steps;
+        while let Some(entry) = left.next() {
+            if more < u64::from(entry.steps) {
+                self.follow(alloc, front_of(entry, more))?;
+                return Ok(());
+            }
+            self.follow(alloc, entry)?;
+            more -= u64::from(entry.steps);
         }
         Ok(())
     }
@@ -217,6 +302,19 @@ impl<M: Memory + Drop, S: Interpret + Drop, D: Deeds + Drop> Walk<'_, M, S, D> {
             Ok(()) => Ok(()),
             Err(AllocError) => Err(WalkFault::Memory),
         }
+    }
+}
+
+/// An entry of so many of the first steps of another, which are ordinary ones: it has more.
+fn front_of(entry: Entry, steps: u64) -> Entry
+    requires { steps < entry.steps }
+    ensures { moves_of result result.steps ≡ take steps (moves_of entry entry.steps) }
+{
+    Entry {
+        context: entry.context,
+        steps: steps as u32,
+        refused: false,
+        shown: None,
     }
 }
 

@@ -1,6 +1,6 @@
 use Rattle.std.proofs.Common.{sym, ap, ◌∙◌}
 use Rattle.ps_mem.specs.Heap.{Heap, empty_heap}
-use Rattle.ps_walks.proofs.walks.make_walk.Goals as goal
+use Rattle.ps_walks.proofs.walks.begin_walk.Goals as goal
 
 pub start_world-requires : goal.start_world-requires
 unfolding empty_heap
