@@ -1,0 +1,69 @@
+-- How high each column of a lane is marked.
+use Rattle.std.specs.Prelude.{ℕ, zero, suc, ◌*◌, ◌/◌, ◌==◌, List, map, max, min, nat_lt}
+use Rattle.std.specs.Prelude.{slice_index, if◌then◌else◌}
+use Rattle.std.specs.List.{range_with_len}
+use Rattle.ps_timelines.specs.declared.columns.Span.{Span}
+use Rattle.ps_timelines.specs.declared.levels.States.{States}
+use Rattle.ps_timelines.specs.declared.marks.Mark.{Mark}
+use Rattle.ps_timelines.specs.declared.marks.Mark.TheVariants.{Ready, Lock, Condition, Join}
+use Rattle.ps_timelines.specs.declared.marks.Mark.TheVariants.{Steps, Owner, Print, Error}
+use Rattle.ps_timelines.specs.Columns.{columns, share}
+
+-- a bar is as high as its share of a lane of 30 pixels, but at least 4
+abbrev pub bar_height : (steps share : ℕ) → ℕ
+bar_height steps zero = 0
+bar_height steps (suc share) = max (30 * suc share / steps) 4
+
+-- what has more than half of a column is marked in it
+abbrev pub half_height : (steps share : ℕ) → ℕ
+half_height steps share = if nat_lt steps (2 * share) then 4 else 0
+
+-- a line is drawn where steps have less than three quarters of a column
+abbrev pub longest : (steps stepping greatest : ℕ) → ℕ
+longest steps stepping greatest = if nat_lt (4 * stepping) (3 * steps) then greatest else 0
+
+-- and it is that of the state with the greatest share
+abbrev pub line_level : (longest share : ℕ) → ℕ
+line_level longest zero = 0
+line_level longest (suc share) = if suc share == longest then 1 else 0
+
+-- ---- what a context does
+
+-- the spans of a mark
+abbrev pub spans_of : States → Mark → List Span
+spans_of states Ready = states.ready.now
+spans_of states Lock = states.lock.now
+spans_of states Condition = states.condition.now
+spans_of states Join = states.join.now
+spans_of states Steps = states.steps.now
+spans_of states Owner = states.owner.now
+spans_of states Print = states.print.now
+spans_of states Error = states.error.now
+
+-- how high a column is marked of which a mark has this share
+abbrev pub level_of : Mark → (steps longest share : ℕ) → ℕ
+level_of Ready steps longest share = line_level longest share
+level_of Lock steps longest share = line_level longest share
+level_of Condition steps longest share = line_level longest share
+level_of Join steps longest share = line_level longest share
+level_of Steps steps longest share = bar_height steps share
+level_of Owner steps longest share = half_height steps share
+level_of Print steps longest share = min share 1
+level_of Error steps longest share = min share 1
+
+-- the share of the state in which a column's context waits or is ready longest
+unfoldable pub longest_share : (steps : ℕ) → States → (column : ℕ) → ℕ
+longest_share steps states column = longest steps (share steps states.steps.now column)
+    (max (max (max (share steps states.ready.now column) (share steps states.lock.now column))
+    (share steps states.condition.now column)) (share steps states.join.now column))
+
+unfoldable pub longest_shares : (steps : ℕ) → States → List ℕ
+longest_shares steps states = map (longest_share steps states) (range_with_len 0 (columns steps))
+
+unfoldable pub mark_level : Mark → (steps : ℕ) → List Span → (longests : List ℕ) → (column : ℕ) → ℕ
+mark_level mark steps spans longests column =
+    level_of mark steps (slice_index longests column) (share steps spans column)
+
+unfoldable pub mark_levels : Mark → (steps : ℕ) → List Span → (longests : List ℕ) → List ℕ
+mark_levels mark steps spans longests =
+    map (mark_level mark steps spans longests) (range_with_len 0 (columns steps))

@@ -1,0 +1,80 @@
+//! How much of each column of a lane its spans cover.
+//!
+//! A run of at most 1,000 steps has a column for each; a longer one has 1,000, and a column is then
+//! a part of the run that needn't begin with a step. So lengths are counted in parts: a step has as
+//! many as there are columns, and a column as many as there are steps.
+
+ghost use Rattle.std.specs.Prelude.{◌≡◌, ◌+◌, ◌*◌, ◌<◌, ◌≤◌, ℕ, List, [], length, max, min, slice_index, IfOk};
+ghost use Rattle.ps_timelines.specs.Columns as columns;
+
+use std::alloc::{AllocError, Global};
+
+/// The most columns that a lane has.
+const MOST_COLUMNS: usize = 1000;
+
+/// Steps of a run one behind another.
+#[derive(Clone, Copy, Debug, PartialEq, Eq)]
+pub struct Span {
+    /// How many steps of the run come before them.
+    pub from: u32,
+    /// How many steps of the run were made behind the last of them.
+    pub to: u32,
+}
+
+/// How many columns a run of so many steps has.
+pub(crate) fn columns(steps: u32) -> usize
+    ensures is { result ≡ columns.columns steps }
+    ensures some { 1 ≤ result }
+    ensures most { result ≤ 1000 }
+{
+    (steps as usize).min(MOST_COLUMNS).max(1)
+}
+
+/// How many parts of a column a span covers.
+#[tactic(auto, unfolding(crate::specs::Columns::covered))]
+fn covered(steps: u32, column: usize, span: Span) -> usize
+    requires { column < 1000 }
+    ensures is { result ≡ columns.covered steps column span }
+    ensures most { result ≤ steps }
+{
+    let width = columns(steps);
+    let begin = column * steps as usize;
+    let end = begin + steps as usize;
+    let last = (width * span.to as usize).min(end);
+    let first = (width * span.from as usize).max(begin);
+    last.saturating_sub(first)
+}
+
+/// Adds what a span covers of each column, up to the whole column.
+fn add(steps: u32, span: Span, parts: &mut Vec<usize>)
+    requires size { length parts.old.items ≡ columns.columns steps }
+    requires full { (column : ℕ) → column < columns.columns steps
+        → slice_index parts.old.items column ≤ steps }
+    ensures size { length parts.new.items ≡ columns.columns steps }
+    ensures each { (column : ℕ) → column < columns.columns steps → slice_index parts.new.items column
+        ≡ min (slice_index parts.old.items column + columns.covered steps column span) steps }
+{
+    if steps == 0 {
+        return;
+    }
+    let width = columns(steps);
+    let first = width * span.from as usize / steps as usize;
+    let last = width * span.to as usize / steps as usize + 1;
+    for column in first..last.min(width) {
+        let sum = parts[column] + covered(steps, column, span);
+        parts[column] = sum.min(steps as usize);
+    }
+}
+
+/// How many parts of each column spans cover.
+pub(crate) fn shares(alloc: Global, steps: u32, spans: &[Span]) -> Result<Vec<usize>, AllocError>
+    ensures size { IfOk result (λ parts. length parts.items ≡ columns.columns steps) }
+    ensures each { IfOk result (λ parts. (column : ℕ) → column < columns.columns steps
+        → slice_index parts.items column ≡ columns.share steps spans.now column) }
+{
+    let mut parts = vec![in alloc; 0; columns(steps)]?;
+    for span in spans {
+        add(steps, *span, &mut parts);
+    }
+    Ok(parts)
+}

@@ -1,0 +1,236 @@
+//! The lane of a context: who it is, what it does, and the errors that it raises.
+
+ghost use Rattle.std.specs.Prelude.{◌≡◌, ◌<◌, ◌^◌, ◌++◌, take, length, OnOk};
+ghost use Rattle.std.specs.List.{flat_map};
+ghost use Rattle.ps_timelines.specs.Columns.{columns};
+ghost use Rattle.ps_timelines.specs.Lanes as lanes;
+ghost use Rattle.ps_timelines.specs.Lanes.{count_text, fault_begin, fault_text, head_text};
+ghost use Rattle.ps_timelines.specs.Lanes.{lane_text, mark_text, marks_text, name_text, place_text};
+
+use crate::bytes::{append, append_between, append_escaped};
+use crate::columns::Span;
+use crate::levels::{States, longest_shares, mark_levels, spans_of};
+use crate::marks::{MARKS, Mark, append_path};
+use std::alloc::{AllocError, Global};
+
+/// Where the lanes begin, from the left; where the first does from above, and each next one below.
+pub(crate) const LANES_LEFT: usize = 150;
+
+pub(crate) const FIRST_LANE: usize = 70;
+
+pub(crate) const NEXT_LANE: usize = 48;
+/// From where on the text of an error stands before it.
+const TEXT_BEFORE: usize = 667;
+/// How many errors of a lane are told by their text.
+const FAULTS_TOLD: usize = 4;
+
+/// A step that failed.
+#[derive(Clone, Copy)]
+pub struct Fault<'a> {
+    /// How many steps of the run come before it.
+    pub step: u32,
+    /// What is told of it, such as the error's name.
+    pub text: &'a [u8],
+}
+
+/// What a context does in the course of a run.
+#[derive(Clone, Copy)]
+pub struct Lane<'a> {
+    /// Its identifier.
+    pub context: u32,
+    pub states: States<'a>,
+    /// The errors that are told by their text, by rising step. Of more than four the first four are
+    /// told.
+    pub faults: &'a [Fault<'a>],
+}
+
+/// What lanes are drawn by.
+#[derive(Clone, Copy)]
+pub(crate) struct Scale {
+    /// Where the columns of a lane are counted.
+    pub(crate) alloc: Global,
+    /// How many steps the run has.
+    pub(crate) steps: u32,
+}
+
+/// How many steps spans have, but at most as many as there are.
+fn count(steps: u32, spans: &[Span]) -> usize
+    ensures { result ≡ lanes.count steps spans.now }
+{
+    let mut sum = 0;
+    for span in spans {
+        sum = (sum + span.to.saturating_sub(span.from) as usize).min(steps as usize);
+    }
+    sum
+}
+
+/// Where a step begins, from the left edge of the lanes.
+pub(crate) fn place(steps: u32, step: u32) -> usize
+    ensures is { result ≡ lanes.place steps step }
+    ensures most { result < 2 ^ 43 }
+{
+    step as usize * 1000 / (steps as usize).max(1)
+}
+
+/// Appends which context it is.
+fn append_name(context: u32, to: &mut Vec<u8>) -> Result<(), AllocError>
+    ensures appended { OnOk result (to.new.items ≡ to.old.items ++ name_text context) }
+    ensures front { take (length to.old.items) to.new.items ≡ to.old.items }
+{
+    append_between(
+        b"<text x=\"-10\" y=\"14\" class=\"name\">context ",
+        context as usize,
+        b"</text>\n",
+        to,
+    )
+}
+
+/// Appends how many steps it made.
+fn append_count(count: usize, to: &mut Vec<u8>) -> Result<(), AllocError>
+    ensures appended { OnOk result (to.new.items ≡ to.old.items ++ count_text count) }
+    ensures front { take (length to.old.items) to.new.items ≡ to.old.items }
+{
+    append_between(
+        b"<text x=\"-10\" y=\"28\" class=\"count\">",
+        count,
+        b" steps</text>\n",
+        to,
+    )
+}
+
+/// Appends the begin of a group that is moved to a place.
+pub(crate) fn append_place(x: usize, y: usize, to: &mut Vec<u8>) -> Result<(), AllocError>
+    ensures appended { OnOk result (to.new.items ≡ to.old.items ++ place_text x y) }
+    ensures front { take (length to.old.items) to.new.items ≡ to.old.items }
+{
+    append_between(b"<g transform=\"translate(", x, b" ", to)?;
+    append_between(b"", y, b")\">\n", to)
+}
+
+/// Appends the begin of the text of an error, which stands on the side where there is more room.
+fn append_fault_begin(steps: u32, step: u32, to: &mut Vec<u8>) -> Result<(), AllocError>
+    ensures appended { OnOk result
+        (to.new.items ≡ to.old.items ++ fault_begin (lanes.place steps step)) }
+    ensures front { take (length to.old.items) to.new.items ≡ to.old.items }
+{
+    let x = place(steps, step);
+    if x < TEXT_BEFORE {
+        append_between(b"<text y=\"20\" x=\"", x + 14, b"\" class=\"fault\">", to)
+    } else {
+        append_between(
+            b"<text y=\"20\" x=\"",
+            x - 14,
+            b"\" class=\"fault end\">",
+            to,
+        )
+    }
+}
+
+/// Appends the text of an error.
+#[tactic(auto, unfolding(crate::specs::Lanes::fault_text))]
+fn append_fault(steps: u32, fault: &Fault<'_>, to: &mut Vec<u8>) -> Result<(), AllocError>
+    ensures appended { OnOk result (to.new.items ≡ to.old.items ++ fault_text steps fault.now) }
+    ensures front { take (length to.old.items) to.new.items ≡ to.old.items }
+{
+    append_fault_begin(steps, fault.step, to)?;
+    append_between(b"<title>step ", fault.step as usize + 1, b"</title>", to)?;
+    append_escaped(fault.text, to)?;
+    append(b"</text>\n", to)
+}
+
+/// Appends the texts of errors, one behind another.
+fn append_faults(steps: u32, faults: &[Fault<'_>], to: &mut Vec<u8>) -> Result<(), AllocError>
+    ensures appended { OnOk result
+        (to.new.items ≡ to.old.items ++ flat_map (fault_text steps) faults.now) }
+    ensures front { take (length to.old.items) to.new.items ≡ to.old.items }
+{
+    for fault in faults {
+        append_fault(steps, fault, to)?;
+    }
+    Ok(())
+}
+
+/// Appends what stands before a lane.
+#[tactic(auto, unfolding(crate::specs::Lanes::head_text))]
+fn append_head(y: usize, lane: &Lane<'_>, steps: u32, to: &mut Vec<u8>) -> Result<(), AllocError>
+    ensures appended { OnOk result (to.new.items ≡ to.old.items ++ head_text y lane.now steps) }
+    ensures front { take (length to.old.items) to.new.items ≡ to.old.items }
+{
+    append_place(LANES_LEFT, y, to)?;
+    append_name(lane.context, to)?;
+    append_count(count(steps, lane.states.steps), to)
+}
+
+/// Appends the path of a mark.
+fn append_mark(
+    scale: Scale,
+    states: &States<'_>,
+    longests: &[usize],
+    mark: Mark,
+    to: &mut Vec<u8>,
+) -> Result<(), AllocError>
+    requires { length longests.now ≡ columns scale.steps }
+    ensures appended { OnOk result
+        (to.new.items ≡ to.old.items ++ mark_text scale.steps states.now longests.now mark) }
+    ensures front { take (length to.old.items) to.new.items ≡ to.old.items }
+{
+    let spans = spans_of(states, mark);
+    let levels = mark_levels(scale.alloc, mark, scale.steps, spans, longests)?;
+    append_path(mark, &levels, to)
+}
+
+/// Appends the paths of marks, one upon another.
+fn append_each_mark(
+    scale: Scale,
+    states: &States<'_>,
+    longests: &[usize],
+    marks: &[Mark],
+    to: &mut Vec<u8>,
+) -> Result<(), AllocError>
+    requires { length longests.now ≡ columns scale.steps }
+    ensures appended { OnOk result (to.new.items ≡ to.old.items
+        ++ flat_map (mark_text scale.steps states.now longests.now) marks.now) }
+    ensures front { take (length to.old.items) to.new.items ≡ to.old.items }
+{
+    for mark in marks {
+        append_mark(scale, states, longests, *mark, to)?;
+    }
+    Ok(())
+}
+
+/// Appends the paths of all marks.
+fn append_marks(scale: Scale, states: &States<'_>, to: &mut Vec<u8>) -> Result<(), AllocError>
+    ensures appended { OnOk result
+        (to.new.items ≡ to.old.items ++ marks_text scale.steps states.now) }
+    ensures front { take (length to.old.items) to.new.items ≡ to.old.items }
+{
+    let longests = longest_shares(scale.alloc, scale.steps, states)?;
+    append_each_mark(scale, states, &longests, &MARKS, to)
+}
+
+/// Appends the texts of the first errors.
+fn append_told(steps: u32, faults: &[Fault<'_>], to: &mut Vec<u8>) -> Result<(), AllocError>
+    ensures appended { OnOk result
+        (to.new.items ≡ to.old.items ++ flat_map (fault_text steps) (take 4 faults.now)) }
+    ensures front { take (length to.old.items) to.new.items ≡ to.old.items }
+{
+    let told = faults.len().min(FAULTS_TOLD);
+    append_faults(steps, &faults[..told], to)
+}
+
+/// Appends a lane that begins so far down.
+#[tactic(auto, unfolding(crate::specs::Lanes::lane_text))]
+pub(crate) fn append_lane(
+    scale: Scale,
+    y: usize,
+    lane: &Lane<'_>,
+    to: &mut Vec<u8>,
+) -> Result<(), AllocError>
+    ensures appended { OnOk result (to.new.items ≡ to.old.items ++ lane_text scale.steps y lane.now) }
+    ensures front { take (length to.old.items) to.new.items ≡ to.old.items }
+{
+    append_head(y, lane, scale.steps, to)?;
+    append_marks(scale, &lane.states, to)?;
+    append_told(scale.steps, lane.faults, to)?;
+    append(b"</g>\n", to)
+}
