@@ -1,3 +1,4 @@
+mod Examples
 pub mod Appended
 pub mod Below
 pub mod Covering

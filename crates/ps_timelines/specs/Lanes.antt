@@ -3,15 +3,15 @@ use Rattle.std.specs.Prelude.{ℕ, ◌+◌, ◌-◌, ◌*◌, ◌/◌, List, [],
 use Rattle.std.specs.Prelude.{codes, if◌then◌else◌}
 use Rattle.std.specs.List.{flat_map, sum_by}
 use Rattle.ps_timelines.specs.declared.columns.Span.{Span}
-use Rattle.ps_timelines.specs.declared.levels.States.{States}
-use Rattle.ps_timelines.specs.declared.marks.Mark.{Mark}
-use Rattle.ps_timelines.specs.declared.marks.Mark.TheVariants.{Ready, Lock, Condition, Join}
-use Rattle.ps_timelines.specs.declared.marks.Mark.TheVariants.{Steps, Owner, Print, Error}
-use Rattle.ps_timelines.specs.declared.lanes.Fault.{Fault}
+use Rattle.ps_timelines.specs.declared.levels.LaneSpans.{LaneSpans}
+use Rattle.ps_timelines.specs.declared.series.Series.{Series}
+use Rattle.ps_timelines.specs.declared.series.Series.TheVariants.{Ready, Lock, Condition, Join}
+use Rattle.ps_timelines.specs.declared.series.Series.TheVariants.{Steps, Owner, Print, Error}
+use Rattle.ps_timelines.specs.declared.lanes.ErrorLabel.{ErrorLabel}
 use Rattle.ps_timelines.specs.declared.lanes.Lane.{Lane}
 use Rattle.ps_timelines.specs.Texts.{escaped, number_text}
-use Rattle.ps_timelines.specs.Levels.{longest_shares, mark_levels, spans_of}
-use Rattle.ps_timelines.specs.Marks.{path_text}
+use Rattle.ps_timelines.specs.Levels.{longest_shares, series_levels, spans_of}
+use Rattle.ps_timelines.specs.Series.{path_text}
 
 -- where a step begins, from the left edge
 abbrev pub place : (steps step : ℕ) → ℕ
@@ -41,35 +41,35 @@ count_text count = number_text (codes "<text x=\"-10\" y=\"28\" class=\"count\">
 
 unfoldable pub head_text : (y : ℕ) → Lane → (steps : ℕ) → List ℕ
 head_text y lane steps = place_text 150 y
-    ++ (name_text lane.context ++ count_text (count steps lane.states.steps.now))
+    ++ (name_text lane.context ++ count_text (count steps lane.spans.steps.now))
 
 -- ---- the errors that are told by their text
 
 -- on the side where there is more room
-abbrev pub fault_begin : (x : ℕ) → List ℕ
-fault_begin x = if nat_lt x 667
-    then number_text (codes "<text y=\"20\" x=\"") (x + 14) (codes "\" class=\"fault\">")
-    else number_text (codes "<text y=\"20\" x=\"") (x - 14) (codes "\" class=\"fault end\">")
+abbrev pub label_begin : (x : ℕ) → List ℕ
+label_begin x = if nat_lt x 667
+    then number_text (codes "<text y=\"20\" x=\"") (x + 14) (codes "\" class=\"label\">")
+    else number_text (codes "<text y=\"20\" x=\"") (x - 14) (codes "\" class=\"label end\">")
 
-unfoldable pub fault_text : (steps : ℕ) → Fault → List ℕ
-fault_text steps fault = fault_begin (place steps fault.step)
-    ++ (number_text (codes "<title>step ") (fault.step + 1) (codes "</title>")
-    ++ (escaped fault.text.now ++ codes "</text>\n"))
+unfoldable pub label_text : (steps : ℕ) → ErrorLabel → List ℕ
+label_text steps label = label_begin (place steps label.step)
+    ++ (number_text (codes "<title>step ") (label.step + 1) (codes "</title>")
+    ++ (escaped label.text.now ++ codes "</text>\n"))
 
 -- ---- the lane
 
--- each mark in the order in which they are drawn
-abbrev pub marks : List Mark
-marks = Ready ∷ Lock ∷ Condition ∷ Join ∷ Steps ∷ Owner ∷ Print ∷ Error ∷ []
+-- each series in the order in which they are drawn
+abbrev pub all_series : List Series
+all_series = Ready ∷ Lock ∷ Condition ∷ Join ∷ Steps ∷ Owner ∷ Print ∷ Error ∷ []
 
-unfoldable pub mark_text : (steps : ℕ) → States → (longests : List ℕ) → Mark → List ℕ
-mark_text steps states longests mark =
-    path_text mark (mark_levels mark steps (spans_of states mark) longests)
+unfoldable pub series_text : (steps : ℕ) → LaneSpans → (longests : List ℕ) → Series → List ℕ
+series_text steps lane_spans longests series =
+    path_text series (series_levels series steps (spans_of lane_spans series) longests)
 
-unfoldable pub marks_text : (steps : ℕ) → States → List ℕ
-marks_text steps states = flat_map (mark_text steps states (longest_shares steps states)) marks
+unfoldable pub all_series_text : (steps : ℕ) → LaneSpans → List ℕ
+all_series_text steps lane_spans = flat_map (series_text steps lane_spans (longest_shares steps lane_spans)) all_series
 
 -- of the errors the first four are told
 unfoldable pub lane_text : (steps y : ℕ) → Lane → List ℕ
-lane_text steps y lane = head_text y lane steps ++ (marks_text steps lane.states
-    ++ (flat_map (fault_text steps) (take 4 lane.faults.now) ++ codes "</g>\n"))
+lane_text steps y lane = head_text y lane steps ++ (all_series_text steps lane.spans
+    ++ (flat_map (label_text steps) (take 4 lane.labels.now) ++ codes "</g>\n"))

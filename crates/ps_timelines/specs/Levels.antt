@@ -3,10 +3,10 @@ use Rattle.std.specs.Prelude.{ℕ, zero, suc, ◌*◌, ◌/◌, ◌==◌, List, 
 use Rattle.std.specs.Prelude.{slice_index, if◌then◌else◌}
 use Rattle.std.specs.List.{range_with_len}
 use Rattle.ps_timelines.specs.declared.columns.Span.{Span}
-use Rattle.ps_timelines.specs.declared.levels.States.{States}
-use Rattle.ps_timelines.specs.declared.marks.Mark.{Mark}
-use Rattle.ps_timelines.specs.declared.marks.Mark.TheVariants.{Ready, Lock, Condition, Join}
-use Rattle.ps_timelines.specs.declared.marks.Mark.TheVariants.{Steps, Owner, Print, Error}
+use Rattle.ps_timelines.specs.declared.levels.LaneSpans.{LaneSpans}
+use Rattle.ps_timelines.specs.declared.series.Series.{Series}
+use Rattle.ps_timelines.specs.declared.series.Series.TheVariants.{Ready, Lock, Condition, Join}
+use Rattle.ps_timelines.specs.declared.series.Series.TheVariants.{Steps, Owner, Print, Error}
 use Rattle.ps_timelines.specs.Columns.{columns, share}
 
 -- a bar is as high as its share of a lane of 30 pixels, but at least 4
@@ -29,19 +29,19 @@ line_level longest (suc share) = if suc share == longest then 1 else 0
 
 -- ---- what a context does
 
--- the spans of a mark
-abbrev pub spans_of : States → Mark → List Span
-spans_of states Ready = states.ready.now
-spans_of states Lock = states.lock.now
-spans_of states Condition = states.condition.now
-spans_of states Join = states.join.now
-spans_of states Steps = states.steps.now
-spans_of states Owner = states.owner.now
-spans_of states Print = states.print.now
-spans_of states Error = states.error.now
+-- the spans of a series
+abbrev pub spans_of : LaneSpans → Series → List Span
+spans_of lane_spans Ready = lane_spans.ready.now
+spans_of lane_spans Lock = lane_spans.lock.now
+spans_of lane_spans Condition = lane_spans.condition.now
+spans_of lane_spans Join = lane_spans.join.now
+spans_of lane_spans Steps = lane_spans.steps.now
+spans_of lane_spans Owner = lane_spans.owner.now
+spans_of lane_spans Print = lane_spans.print.now
+spans_of lane_spans Error = lane_spans.error.now
 
--- how high a column is marked of which a mark has this share
-abbrev pub level_of : Mark → (steps longest share : ℕ) → ℕ
+-- how high a column is marked of which a series has this share
+abbrev pub level_of : Series → (steps longest share : ℕ) → ℕ
 level_of Ready steps longest share = line_level longest share
 level_of Lock steps longest share = line_level longest share
 level_of Condition steps longest share = line_level longest share
@@ -52,18 +52,18 @@ level_of Print steps longest share = min share 1
 level_of Error steps longest share = min share 1
 
 -- the share of the state in which a column's context waits or is ready longest
-unfoldable pub longest_share : (steps : ℕ) → States → (column : ℕ) → ℕ
-longest_share steps states column = longest steps (share steps states.steps.now column)
-    (max (max (max (share steps states.ready.now column) (share steps states.lock.now column))
-    (share steps states.condition.now column)) (share steps states.join.now column))
+unfoldable pub longest_share : (steps : ℕ) → LaneSpans → (column : ℕ) → ℕ
+longest_share steps lane_spans column = longest steps (share steps lane_spans.steps.now column)
+    (max (max (max (share steps lane_spans.ready.now column) (share steps lane_spans.lock.now column))
+    (share steps lane_spans.condition.now column)) (share steps lane_spans.join.now column))
 
-unfoldable pub longest_shares : (steps : ℕ) → States → List ℕ
-longest_shares steps states = map (longest_share steps states) (range_with_len 0 (columns steps))
+unfoldable pub longest_shares : (steps : ℕ) → LaneSpans → List ℕ
+longest_shares steps lane_spans = map (longest_share steps lane_spans) (range_with_len 0 (columns steps))
 
-unfoldable pub mark_level : Mark → (steps : ℕ) → List Span → (longests : List ℕ) → (column : ℕ) → ℕ
-mark_level mark steps spans longests column =
-    level_of mark steps (slice_index longests column) (share steps spans column)
+unfoldable pub series_level : Series → (steps : ℕ) → List Span → (longests : List ℕ) → (column : ℕ) → ℕ
+series_level series steps spans longests column =
+    level_of series steps (slice_index longests column) (share steps spans column)
 
-unfoldable pub mark_levels : Mark → (steps : ℕ) → List Span → (longests : List ℕ) → List ℕ
-mark_levels mark steps spans longests =
-    map (mark_level mark steps spans longests) (range_with_len 0 (columns steps))
+unfoldable pub series_levels : Series → (steps : ℕ) → List Span → (longests : List ℕ) → List ℕ
+series_levels series steps spans longests =
+    map (series_level series steps spans longests) (range_with_len 0 (columns steps))

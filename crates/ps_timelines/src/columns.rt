@@ -4,7 +4,7 @@
 //! a part of the run that needn't begin with a step. So lengths are counted in parts: a step has as
 //! many as there are columns, and a column as many as there are steps.
 
-ghost use Rattle.std.specs.Prelude.{◌≡◌, ◌+◌, ◌*◌, ◌<◌, ◌≤◌, ℕ, List, [], length, max, min, slice_index, IfOk};
+ghost use Rattle.std.specs.Prelude.{◌≡◌, ◌+◌, ◌<◌, ◌≤◌, ℕ, length, min, slice_index, IfOk};
 ghost use Rattle.ps_timelines.specs.Columns as columns;
 
 use std::alloc::{AllocError, Global};
@@ -51,7 +51,8 @@ fn add(steps: u32, span: Span, parts: &mut Vec<usize>)
     requires full { (column : ℕ) → column < columns.columns steps
         → slice_index parts.old.items column ≤ steps }
     ensures size { length parts.new.items ≡ columns.columns steps }
-    ensures each { (column : ℕ) → column < columns.columns steps → slice_index parts.new.items column
+    ensures each { (column : ℕ) → column < columns.columns steps
+        → slice_index parts.new.items column
         ≡ min (slice_index parts.old.items column + columns.covered steps column span) steps }
 {
     if steps == 0 {

@@ -4,13 +4,13 @@ ghost use Rattle.std.specs.Prelude.{◌≡◌, ◌<◌, ◌^◌, ◌++◌, take,
 ghost use Rattle.std.specs.List.{flat_map};
 ghost use Rattle.ps_timelines.specs.Columns.{columns};
 ghost use Rattle.ps_timelines.specs.Lanes as lanes;
-ghost use Rattle.ps_timelines.specs.Lanes.{count_text, fault_begin, fault_text, head_text};
-ghost use Rattle.ps_timelines.specs.Lanes.{lane_text, mark_text, marks_text, name_text, place_text};
+ghost use Rattle.ps_timelines.specs.Lanes.{count_text, label_begin, label_text, head_text};
+ghost use Rattle.ps_timelines.specs.Lanes.{lane_text, series_text, all_series_text, name_text, place_text};
 
 use crate::bytes::{append, append_between, append_escaped};
 use crate::columns::Span;
-use crate::levels::{States, longest_shares, mark_levels, spans_of};
-use crate::marks::{MARKS, Mark, append_path};
+use crate::levels::{LaneSpans, longest_shares, series_levels, spans_of};
+use crate::series::{ALL_SERIES, Series, append_path};
 use std::alloc::{AllocError, Global};
 
 /// Where the lanes begin, from the left; where the first does from above, and each next one below.
@@ -22,11 +22,11 @@ pub(crate) const NEXT_LANE: usize = 48;
 /// From where on the text of an error stands before it.
 const TEXT_BEFORE: usize = 667;
 /// How many errors of a lane are told by their text.
-const FAULTS_TOLD: usize = 4;
+const LABELS_SHOWN: usize = 4;
 
 /// A step that failed.
 #[derive(Clone, Copy)]
-pub struct Fault<'a> {
+pub struct ErrorLabel<'a> {
     /// How many steps of the run come before it.
     pub step: u32,
     /// What is told of it, such as the error's name.
@@ -38,10 +38,10 @@ pub struct Fault<'a> {
 pub struct Lane<'a> {
     /// Its identifier.
     pub context: u32,
-    pub states: States<'a>,
+    pub spans: LaneSpans<'a>,
     /// The errors that are told by their text, by rising step. Of more than four the first four are
     /// told.
-    pub faults: &'a [Fault<'a>],
+    pub labels: &'a [ErrorLabel<'a>],
 }
 
 /// What lanes are drawn by.
@@ -108,44 +108,44 @@ pub(crate) fn append_place(x: usize, y: usize, to: &mut Vec<u8>) -> Result<(), A
 }
 
 /// Appends the begin of the text of an error, which stands on the side where there is more room.
-fn append_fault_begin(steps: u32, step: u32, to: &mut Vec<u8>) -> Result<(), AllocError>
+fn append_label_begin(steps: u32, step: u32, to: &mut Vec<u8>) -> Result<(), AllocError>
     ensures appended { OnOk result
-        (to.new.items ≡ to.old.items ++ fault_begin (lanes.place steps step)) }
+        (to.new.items ≡ to.old.items ++ label_begin (lanes.place steps step)) }
     ensures front { take (length to.old.items) to.new.items ≡ to.old.items }
 {
     let x = place(steps, step);
     if x < TEXT_BEFORE {
-        append_between(b"<text y=\"20\" x=\"", x + 14, b"\" class=\"fault\">", to)
+        append_between(b"<text y=\"20\" x=\"", x + 14, b"\" class=\"label\">", to)
     } else {
         append_between(
             b"<text y=\"20\" x=\"",
             x - 14,
-            b"\" class=\"fault end\">",
+            b"\" class=\"label end\">",
             to,
         )
     }
 }
 
 /// Appends the text of an error.
-#[tactic(auto, unfolding(crate::specs::Lanes::fault_text))]
-fn append_fault(steps: u32, fault: &Fault<'_>, to: &mut Vec<u8>) -> Result<(), AllocError>
-    ensures appended { OnOk result (to.new.items ≡ to.old.items ++ fault_text steps fault.now) }
+#[tactic(auto, unfolding(crate::specs::Lanes::label_text))]
+fn append_label(steps: u32, label: &ErrorLabel<'_>, to: &mut Vec<u8>) -> Result<(), AllocError>
+    ensures appended { OnOk result (to.new.items ≡ to.old.items ++ label_text steps label.now) }
     ensures front { take (length to.old.items) to.new.items ≡ to.old.items }
 {
-    append_fault_begin(steps, fault.step, to)?;
-    append_between(b"<title>step ", fault.step as usize + 1, b"</title>", to)?;
-    append_escaped(fault.text, to)?;
+    append_label_begin(steps, label.step, to)?;
+    append_between(b"<title>step ", label.step as usize + 1, b"</title>", to)?;
+    append_escaped(label.text, to)?;
     append(b"</text>\n", to)
 }
 
 /// Appends the texts of errors, one behind another.
-fn append_faults(steps: u32, faults: &[Fault<'_>], to: &mut Vec<u8>) -> Result<(), AllocError>
+fn append_labels(steps: u32, labels: &[ErrorLabel<'_>], to: &mut Vec<u8>) -> Result<(), AllocError>
     ensures appended { OnOk result
-        (to.new.items ≡ to.old.items ++ flat_map (fault_text steps) faults.now) }
+        (to.new.items ≡ to.old.items ++ flat_map (label_text steps) labels.now) }
     ensures front { take (length to.old.items) to.new.items ≡ to.old.items }
 {
-    for fault in faults {
-        append_fault(steps, fault, to)?;
+    for label in labels {
+        append_label(steps, label, to)?;
     }
     Ok(())
 }
@@ -158,64 +158,68 @@ fn append_head(y: usize, lane: &Lane<'_>, steps: u32, to: &mut Vec<u8>) -> Resul
 {
     append_place(LANES_LEFT, y, to)?;
     append_name(lane.context, to)?;
-    append_count(count(steps, lane.states.steps), to)
+    append_count(count(steps, lane.spans.steps), to)
 }
 
-/// Appends the path of a mark.
-fn append_mark(
+/// Appends the path of a series.
+fn append_series(
     scale: Scale,
-    states: &States<'_>,
+    lane_spans: &LaneSpans<'_>,
     longests: &[usize],
-    mark: Mark,
+    series: Series,
     to: &mut Vec<u8>,
 ) -> Result<(), AllocError>
     requires { length longests.now ≡ columns scale.steps }
     ensures appended { OnOk result
-        (to.new.items ≡ to.old.items ++ mark_text scale.steps states.now longests.now mark) }
+        (to.new.items ≡ to.old.items ++ series_text scale.steps lane_spans.now longests.now series) }
     ensures front { take (length to.old.items) to.new.items ≡ to.old.items }
 {
-    let spans = spans_of(states, mark);
-    let levels = mark_levels(scale.alloc, mark, scale.steps, spans, longests)?;
-    append_path(mark, &levels, to)
+    let spans = spans_of(lane_spans, series);
+    let levels = series_levels(scale.alloc, series, scale.steps, spans, longests)?;
+    append_path(series, &levels, to)
 }
 
-/// Appends the paths of marks, one upon another.
-fn append_each_mark(
+/// Appends the paths of series, one upon another.
+fn append_each_series(
     scale: Scale,
-    states: &States<'_>,
+    lane_spans: &LaneSpans<'_>,
     longests: &[usize],
-    marks: &[Mark],
+    all_series: &[Series],
     to: &mut Vec<u8>,
 ) -> Result<(), AllocError>
     requires { length longests.now ≡ columns scale.steps }
     ensures appended { OnOk result (to.new.items ≡ to.old.items
-        ++ flat_map (mark_text scale.steps states.now longests.now) marks.now) }
+        ++ flat_map (series_text scale.steps lane_spans.now longests.now) all_series.now) }
     ensures front { take (length to.old.items) to.new.items ≡ to.old.items }
 {
-    for mark in marks {
-        append_mark(scale, states, longests, *mark, to)?;
+    for series in all_series {
+        append_series(scale, lane_spans, longests, *series, to)?;
     }
     Ok(())
 }
 
-/// Appends the paths of all marks.
-fn append_marks(scale: Scale, states: &States<'_>, to: &mut Vec<u8>) -> Result<(), AllocError>
+/// Appends the paths of all series.
+fn append_all_series(
+    scale: Scale,
+    lane_spans: &LaneSpans<'_>,
+    to: &mut Vec<u8>,
+) -> Result<(), AllocError>
     ensures appended { OnOk result
-        (to.new.items ≡ to.old.items ++ marks_text scale.steps states.now) }
+        (to.new.items ≡ to.old.items ++ all_series_text scale.steps lane_spans.now) }
     ensures front { take (length to.old.items) to.new.items ≡ to.old.items }
 {
-    let longests = longest_shares(scale.alloc, scale.steps, states)?;
-    append_each_mark(scale, states, &longests, &MARKS, to)
+    let longests = longest_shares(scale.alloc, scale.steps, lane_spans)?;
+    append_each_series(scale, lane_spans, &longests, &ALL_SERIES, to)
 }
 
 /// Appends the texts of the first errors.
-fn append_told(steps: u32, faults: &[Fault<'_>], to: &mut Vec<u8>) -> Result<(), AllocError>
+fn append_told(steps: u32, labels: &[ErrorLabel<'_>], to: &mut Vec<u8>) -> Result<(), AllocError>
     ensures appended { OnOk result
-        (to.new.items ≡ to.old.items ++ flat_map (fault_text steps) (take 4 faults.now)) }
+        (to.new.items ≡ to.old.items ++ flat_map (label_text steps) (take 4 labels.now)) }
     ensures front { take (length to.old.items) to.new.items ≡ to.old.items }
 {
-    let told = faults.len().min(FAULTS_TOLD);
-    append_faults(steps, &faults[..told], to)
+    let told = labels.len().min(LABELS_SHOWN);
+    append_labels(steps, &labels[..told], to)
 }
 
 /// Appends a lane that begins so far down.
@@ -226,11 +230,12 @@ pub(crate) fn append_lane(
     lane: &Lane<'_>,
     to: &mut Vec<u8>,
 ) -> Result<(), AllocError>
-    ensures appended { OnOk result (to.new.items ≡ to.old.items ++ lane_text scale.steps y lane.now) }
+    ensures appended { OnOk result
+        (to.new.items ≡ to.old.items ++ lane_text scale.steps y lane.now) }
     ensures front { take (length to.old.items) to.new.items ≡ to.old.items }
 {
     append_head(y, lane, scale.steps, to)?;
-    append_marks(scale, &lane.states, to)?;
-    append_told(scale.steps, lane.faults, to)?;
+    append_all_series(scale, &lane.spans, to)?;
+    append_told(scale.steps, lane.labels, to)?;
     append(b"</g>\n", to)
 }

@@ -5,11 +5,11 @@ ghost use Rattle.ps_timelines.specs.Columns.{columns};
 ghost use Rattle.ps_timelines.specs.Levels as levels;
 
 use crate::columns::{Span, columns, shares};
-use crate::marks::Mark;
+use crate::series::Series;
 use std::alloc::{AllocError, Global};
 
 /// How high a lane is.
-const LANE_HEIGHT: usize = 30;
+pub(crate) const LANE_HEIGHT: usize = 30;
 /// How low a bar is at least.
 const LEAST_BAR: usize = 4;
 
@@ -59,9 +59,9 @@ fn line_level(longest: usize, share: usize) -> usize
 
 /// What a context does, as its lane shows it: for each state the spans of steps in which it is in
 /// that state. The spans of steps are those that it makes itself, and those of an owner those in
-/// which it has a lock; the other states are of a context that isn't stepping.
+/// which it has a lock; the other states are those of a context that isn't stepping.
 #[derive(Clone, Copy)]
-pub struct States<'a> {
+pub struct LaneSpans<'a> {
     pub steps: &'a [Span],
     /// It may go on, and another does.
     pub ready: &'a [Span],
@@ -74,32 +74,34 @@ pub struct States<'a> {
     pub error: &'a [Span],
 }
 
-/// The spans of a mark.
-pub(crate) fn spans_of<'a>(states: &States<'a>, mark: Mark) -> &'a [Span]
-    ensures { result.now ≡ levels.spans_of states.now mark }
+/// The spans of a series.
+pub(crate) fn spans_of<'a>(lane_spans: &LaneSpans<'a>, series: Series) -> &'a [Span]
+    ensures { result.now ≡ levels.spans_of lane_spans.now series }
 {
-    match mark {
-        Mark::Ready => states.ready,
-        Mark::Lock => states.lock,
-        Mark::Condition => states.condition,
-        Mark::Join => states.join,
-        Mark::Steps => states.steps,
-        Mark::Owner => states.owner,
-        Mark::Print => states.print,
-        Mark::Error => states.error,
+    match series {
+        Series::Ready => lane_spans.ready,
+        Series::Lock => lane_spans.lock,
+        Series::Condition => lane_spans.condition,
+        Series::Join => lane_spans.join,
+        Series::Steps => lane_spans.steps,
+        Series::Owner => lane_spans.owner,
+        Series::Print => lane_spans.print,
+        Series::Error => lane_spans.error,
     }
 }
 
-/// How high a column is marked of which a mark has this share.
-fn level_of(mark: Mark, steps: u32, longest: usize, share: usize) -> usize
+/// How high a column is marked of which a series has this share.
+fn level_of(series: Series, steps: u32, longest: usize, share: usize) -> usize
     requires { share ≤ steps }
-    ensures { result ≡ levels.level_of mark steps longest share }
+    ensures { result ≡ levels.level_of series steps longest share }
 {
-    match mark {
-        Mark::Ready | Mark::Lock | Mark::Condition | Mark::Join => line_level(longest, share),
-        Mark::Steps => bar_height(steps, share),
-        Mark::Owner => half_height(steps, share),
-        Mark::Print | Mark::Error => share.min(1),
+    match series {
+        Series::Ready | Series::Lock | Series::Condition | Series::Join => line_level(
+            longest, share,
+        ),
+        Series::Steps => bar_height(steps, share),
+        Series::Owner => half_height(steps, share),
+        Series::Print | Series::Error => share.min(1),
     }
 }
 
@@ -107,15 +109,15 @@ fn level_of(mark: Mark, steps: u32, longest: usize, share: usize) -> usize
 pub(crate) fn longest_shares(
     alloc: Global,
     steps: u32,
-    states: &States<'_>,
+    lane_spans: &LaneSpans<'_>,
 ) -> Result<Vec<usize>, AllocError>
-    ensures { IfOk result (λ shares. shares.items ≡ levels.longest_shares steps states.now) }
+    ensures { IfOk result (λ shares. shares.items ≡ levels.longest_shares steps lane_spans.now) }
 {
-    let stepping = shares(alloc, steps, states.steps)?;
-    let mut longests = shares(alloc, steps, states.ready)?;
-    let lock = shares(alloc, steps, states.lock)?;
-    let condition = shares(alloc, steps, states.condition)?;
-    let join = shares(alloc, steps, states.join)?;
+    let stepping = shares(alloc, steps, lane_spans.steps)?;
+    let mut longests = shares(alloc, steps, lane_spans.ready)?;
+    let lock = shares(alloc, steps, lane_spans.lock)?;
+    let condition = shares(alloc, steps, lane_spans.condition)?;
+    let join = shares(alloc, steps, lane_spans.join)?;
     for column in 0..columns(steps) {
         let greatest = longests[column]
             .max(lock[column])
@@ -127,20 +129,20 @@ pub(crate) fn longest_shares(
 }
 
 /// How high all columns are marked.
-pub(crate) fn mark_levels(
+pub(crate) fn series_levels(
     alloc: Global,
-    mark: Mark,
+    series: Series,
     steps: u32,
     spans: &[Span],
     longests: &[usize],
 ) -> Result<Vec<usize>, AllocError>
     requires { length longests.now ≡ columns steps }
     ensures { IfOk result
-        (λ marked. marked.items ≡ levels.mark_levels mark steps spans.now longests.now) }
+        (λ marked. marked.items ≡ levels.series_levels series steps spans.now longests.now) }
 {
     let mut marked = shares(alloc, steps, spans)?;
     for column in 0..columns(steps) {
-        marked[column] = level_of(mark, steps, longests[column], marked[column]);
+        marked[column] = level_of(series, steps, longests[column], marked[column]);
     }
     Ok(marked)
 }

@@ -1,11 +1,14 @@
-//! The picture of a run: its title, the steps below the lanes, the lanes, and what their marks say.
+//! The picture of a run: its title, the steps below the lanes, the lanes with the arrows between
+//! them, and what all that says.
 
 ghost use Rattle.std.specs.Prelude.{◌≡◌, ◌+◌, ◌*◌, ◌≤◌, ◌<◌, ◌^◌, ◌++◌, take, length, OnOk, OnErr};
 ghost use Rattle.ps_timelines.specs.Pictures as pictures;
-ghost use Rattle.ps_timelines.specs.Pictures.{axis_text, head_text, lanes_text, picture, size_text};
+ghost use Rattle.ps_timelines.specs.Pictures.{all_arrows_text, axis_text, heads_text, scale_text};
+ghost use Rattle.ps_timelines.specs.Pictures.{head_text, lanes_text, picture, size_text};
 ghost use Rattle.ps_timelines.specs.Pictures.{style_text, tick_at, tick_text, ticks_text, title_text};
 ghost use Rattle.ps_timelines.specs.Pictures.{titled_text};
 
+use crate::arrows::{Arrow, Relation, append_arrows};
 use crate::bytes::{append, append_between, append_escaped};
 use crate::keys::append_legend;
 use crate::lanes::{
@@ -57,6 +60,11 @@ pub struct Timeline<'a> {
     pub outcome: &'a [u8],
     /// A lane for each context, by rising identifier.
     pub lanes: &'a [Lane<'a>],
+    /// From who starts a context, joins it or notifies it, to that context. Of a kind that has more
+    /// than 150 none are drawn.
+    pub forks: &'a [Arrow],
+    pub joins: &'a [Arrow],
+    pub notifies: &'a [Arrow],
 }
 
 /// How the shapes look. Each of them differs from the others without its colour; the colours are
@@ -72,8 +80,22 @@ fn style() -> &'static [u8]
 .ready{stroke:#56B4E9;stroke-width:2}.lock{stroke:#E69F00;stroke-width:9}\
 .condition{stroke:#CC79A7;stroke-width:9;stroke-dasharray:2 2}\
 .join{stroke:#999;stroke-width:2;stroke-dasharray:6 4}\
-.error{stroke:#D55E00;stroke-width:4}.fault{fill:#D55E00;font-weight:bold}\
-.end{text-anchor:end}</style>\n"
+.error{stroke:#D55E00;stroke-width:4}.label{fill:#D55E00;font-weight:bold}\
+.end{text-anchor:end}.fork{stroke:#333;stroke-width:1.5;marker-end:url(#k)}\
+.joined{stroke:#333;stroke-width:1.5;stroke-dasharray:4 3;marker-end:url(#k)}\
+.notify{stroke:#CC79A7;stroke-width:1.5;marker-end:url(#n)}\
+.head{fill:#333}.notified{fill:#CC79A7}</style>\n"
+}
+
+/// The heads of arrows.
+#[tactic(auto, unfolding(crate::specs::Pictures::heads_text))]
+fn heads() -> &'static [u8]
+    ensures { result.now ≡ heads_text }
+{
+    b"<defs><marker id=\"k\" markerUnits=\"userSpaceOnUse\" markerWidth=\"9\" markerHeight=\"9\" \
+refX=\"8\" refY=\"4\" orient=\"auto\"><path class=\"head\" d=\"M0 0l8 4l-8 4z\"/></marker>\n\
+<marker id=\"n\" markerUnits=\"userSpaceOnUse\" markerWidth=\"9\" markerHeight=\"9\" \
+refX=\"8\" refY=\"4\" orient=\"auto\"><path class=\"notified\" d=\"M0 0l8 4l-8 4z\"/></marker></defs>\n"
 }
 
 /// The first unit of which at most ten fit a run; 0, where there is none.
@@ -200,12 +222,35 @@ fn append_titled(
     append(behind, to)
 }
 
-/// Appends the style sheet.
+/// Appends the style sheet, and the heads of arrows.
 fn append_style(to: &mut Vec<u8>) -> Result<(), AllocError>
-    ensures appended { OnOk result (to.new.items ≡ to.old.items ++ style_text) }
+    ensures appended { OnOk result (to.new.items ≡ to.old.items ++ (style_text ++ heads_text)) }
     ensures front { take (length to.old.items) to.new.items ≡ to.old.items }
 {
-    append(style(), to)
+    append(style(), to)?;
+    append(heads(), to)
+}
+
+/// Appends the arrows of all kinds.
+#[tactic(auto, unfolding(crate::specs::Pictures::all_arrows_text))]
+fn append_all_arrows(told: &Timeline<'_>, to: &mut Vec<u8>) -> Result<(), AllocError>
+    ensures appended { OnOk result (to.new.items ≡ to.old.items ++ all_arrows_text told.now) }
+    ensures front { take (length to.old.items) to.new.items ≡ to.old.items }
+{
+    append_arrows(told.steps, Relation::Starts, told.forks, to)?;
+    append_arrows(told.steps, Relation::Joins, told.joins, to)?;
+    append_arrows(told.steps, Relation::Notifies, told.notifies, to)
+}
+
+/// Appends the ticks, and what they are.
+#[tactic(auto, unfolding(crate::specs::Pictures::scale_text))]
+fn append_scale(steps: u32, height: usize, to: &mut Vec<u8>) -> Result<(), AllocError>
+    requires { height < 2 ^ 63 }
+    ensures appended { OnOk result (to.new.items ≡ to.old.items ++ scale_text steps height) }
+    ensures front { take (length to.old.items) to.new.items ≡ to.old.items }
+{
+    append_ticks(steps, height, to)?;
+    append_axis(height, to)
 }
 
 /// Appends how large the picture is.
@@ -217,11 +262,11 @@ fn append_size(height: usize, to: &mut Vec<u8>) -> Result<(), AllocError>
 {
     append_between(
         b"<svg xmlns=\"http://www.w3.org/2000/svg\" width=\"1180\" height=\"",
-        height + 186,
+        height + 210,
         b"\" viewBox=\"0 0 1180 ",
         to,
     )?;
-    append_between(b"", height + 186, b"\" role=\"img\">\n", to)
+    append_between(b"", height + 210, b"\" role=\"img\">\n", to)
 }
 
 /// Appends what stands before the lanes, which are so high together.
@@ -255,9 +300,9 @@ fn append_parts(alloc: Global, told: &Timeline<'_>, to: &mut Vec<u8>) -> Result<
     let steps = told.steps;
     let height = NEXT_LANE * told.lanes.len();
     append_head(told, height, to)?;
-    append_ticks(steps, height, to)?;
-    append_axis(height, to)?;
+    append_scale(steps, height, to)?;
     append_lanes(Scale { alloc, steps }, told.lanes, to)?;
+    append_all_arrows(told, to)?;
     append_legend(height, to)?;
     append(b"</svg>\n", to)
 }
@@ -271,7 +316,8 @@ fn append_parts(alloc: Global, told: &Timeline<'_>, to: &mut Vec<u8>) -> Result<
 ///   quarters of the part: thin where it is ready, thick where it waits for a lock, dotted where it
 ///   waits for a condition, dashed where it waits to join;
 /// - a bar below where it has a lock for more than half of the part;
-/// - a triangle where it prints, a cross where it fails, and the texts of the first four errors.
+/// - a triangle where it prints, a cross where it fails, and the texts of the first four errors;
+/// - arrows from who starts, joins or notifies a context.
 ///
 /// So a picture is as large as its lanes, however long the run is. Bytes of the file's name and of
 /// the other texts that are no printable ASCII are shown as `?`.

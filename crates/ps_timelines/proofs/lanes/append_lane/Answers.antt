@@ -8,6 +8,6 @@ pub returns-clause-appended : goal.returns-clause-appended
 unfolding lane_text
 returns-clause-appended c =
     on_ok_weaker c.append.result
-    (four c.args.to.now.items c.append_head.new.to.items c.append_marks.new.to.items c.append_told.new.to.items c.append.new.to.items _ _ _ _
-    c.in_ok-append_head.ensures.appended c.in_ok-append_marks.ensures.appended c.in_ok-append_told.ensures.appended)
+    (four c.args.to.now.items c.append_head.new.to.items c.append_all_series.new.to.items c.append_told.new.to.items c.append.new.to.items _ _ _ _
+    c.in_ok-append_head.ensures.appended c.in_ok-append_all_series.ensures.appended c.in_ok-append_told.ensures.appended)
     c.append.ensures.appended
