@@ -32,7 +32,7 @@ step_text steps step = number_text (codes "\" d=\"M") (150 + place steps step) (
 abbrev pub side_text : (lane other : ℕ) → (behind : List ℕ) → List ℕ
 side_text lane other behind = number_text [] (edge lane other) behind
 
--- straight down or up, where its step begins
+-- straight down or up, behind its step
 unfoldable pub shaft_text : (steps : ℕ) → Arrow → List ℕ
 shaft_text steps arrow = step_text steps arrow.step
     ++ (side_text arrow.from arrow.to (codes "V")
@@ -40,7 +40,7 @@ shaft_text steps arrow = step_text steps arrow.step
 
 unfoldable pub arrow_text : (steps : ℕ) → Relation → Arrow → List ℕ
 arrow_text steps relation arrow = arrow_head relation ++ (shaft_text steps arrow
-    ++ (number_text [] (arrow.step + 1) (codes ": ") ++ (relation_title relation
+    ++ (number_text [] arrow.step (codes ": ") ++ (relation_title relation
     ++ codes "</title></path>\n")))
 
 -- more than 150 of a kind would hide the lanes

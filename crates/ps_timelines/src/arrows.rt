@@ -25,7 +25,7 @@ pub(crate) enum Relation {
 /// A step that has to do with two contexts. Lanes are told by their number, from 0.
 #[derive(Clone, Copy, Debug, PartialEq, Eq)]
 pub struct Arrow {
-    /// How many steps of the run come before it.
+    /// The number of the step, from 1. The arrow stands behind it.
     pub step: u32,
     /// Whence it points, and where to.
     pub from: u32,
@@ -121,7 +121,7 @@ fn append_arrow(
 {
     append_arrow_head(relation, to)?;
     append_shaft(steps, arrow, to)?;
-    append_between(b"", arrow.step as usize + 1, b": ", to)?;
+    append_between(b"", arrow.step as usize, b": ", to)?;
     append_relation_title(relation, to)?;
     append(b"</title></path>\n", to)
 }
