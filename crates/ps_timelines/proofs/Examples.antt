@@ -2,7 +2,7 @@
 use Rattle.std.proofs.Common.{◌≡◌, refl, ℕ, [], ◌∷◌, ◌++◌}
 use Rattle.std.specs.Prelude.{codes}
 use Rattle.std.specs.Fmt.{decimal}
-use Rattle.ps_timelines.specs.declared.columns.Span.{Span}
+use Rattle.ps_timelines.specs.declared.columns.Interval.{Interval}
 use Rattle.ps_timelines.specs.declared.series.Series.TheVariants.{Ready, Lock, Steps, Error}
 use Rattle.ps_timelines.specs.Columns.{columns, covered, share}
 use Rattle.ps_timelines.specs.Lanes.{count, place}
@@ -11,8 +11,8 @@ use Rattle.ps_timelines.specs.Series.{edge_text, column_text, edges_text, line_t
 use Rattle.ps_timelines.specs.Pictures.{unit, first_unit}
 use Rattle.ps_timelines.specs.Texts.{escaped}
 
-abbrev span : ℕ → ℕ → Span
-span from to = record { from = from; to = to }
+abbrev interval : ℕ → ℕ → Interval
+interval from to = record { from = from; to = to }
 
 -- ---- columns
 
@@ -24,39 +24,39 @@ shared_columns : columns 1001 ≡ 1000
 shared_columns = refl
 
 -- the first of two steps is the whole first column, and nothing of the second
-first_step : covered 2 0 (span 0 1) ≡ 2
+first_step : covered 2 0 (interval 0 1) ≡ 2
 unfolding covered
 first_step = refl
 
-not_second : covered 2 1 (span 0 1) ≡ 0
+not_second : covered 2 1 (interval 0 1) ≡ 0
 unfolding covered
 not_second = refl
 
 -- of 2,000 steps a column has two, and one of them is half of it
-half_column : covered 2000 0 (span 1 2) ≡ 1000
+half_column : covered 2000 0 (interval 1 2) ≡ 1000
 unfolding covered
 half_column = refl
 
 -- the second of 1,500 steps lies in the first column by half, and in the second by the other
-across : covered 1500 0 (span 1 2) ≡ 500
+across : covered 1500 0 (interval 1 2) ≡ 500
 unfolding covered
 across = refl
 
-across_on : covered 1500 1 (span 1 2) ≡ 500
+across_on : covered 1500 1 (interval 1 2) ≡ 500
 unfolding covered
 across_on = refl
 
--- a span that ends before it begins has nothing
-backwards : covered 2 0 (span 1 0) ≡ 0
+-- an interval that ends before it begins has nothing
+backwards : covered 2 0 (interval 1 0) ≡ 0
 unfolding covered
 backwards = refl
 
--- what two spans share is counted twice, but a column isn't more than whole
-whole : share 2 (span 0 1 ∷ span 0 2 ∷ []) 0 ≡ 2
+-- what two intervals share is counted twice, but a column isn't more than whole
+whole : share 2 (interval 0 1 ∷ interval 0 2 ∷ []) 0 ≡ 2
 unfolding share covered
 whole = refl
 
-both_counted : count 9 (span 0 3 ∷ span 4 6 ∷ []) ≡ 5
+both_counted : count 9 (interval 0 3 ∷ interval 4 6 ∷ []) ≡ 5
 unfolding count
 both_counted = refl
 

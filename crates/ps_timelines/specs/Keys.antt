@@ -20,7 +20,8 @@ sample Print = codes "M12 3l4-6h-8z"
 sample Error = codes "M4-8l16 16m0-16l-16 16"
 
 unfoldable pub sample_text : Series → List ℕ
-sample_text series = codes "<path class=\"" ++ (series_word series ++ (codes "\" d=\"" ++ sample series))
+sample_text series = codes "<path class=\""
+    ++ (series_word series ++ (codes "\" d=\"" ++ sample series))
 
 -- and what it says of a context
 unfoldable pub key_text : (x y : ℕ) → Series → List ℕ

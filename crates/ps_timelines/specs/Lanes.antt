@@ -2,15 +2,15 @@
 use Rattle.std.specs.Prelude.{ℕ, ◌+◌, ◌-◌, ◌*◌, ◌/◌, List, [], ◌∷◌, ◌++◌, max, min, take, nat_lt}
 use Rattle.std.specs.Prelude.{codes, if◌then◌else◌}
 use Rattle.std.specs.List.{flat_map, sum_by}
-use Rattle.ps_timelines.specs.declared.columns.Span.{Span}
-use Rattle.ps_timelines.specs.declared.levels.LaneSpans.{LaneSpans}
+use Rattle.ps_timelines.specs.declared.columns.Interval.{Interval}
+use Rattle.ps_timelines.specs.declared.levels.LaneIntervals.{LaneIntervals}
 use Rattle.ps_timelines.specs.declared.series.Series.{Series}
 use Rattle.ps_timelines.specs.declared.series.Series.TheVariants.{Ready, Lock, Condition, Join}
 use Rattle.ps_timelines.specs.declared.series.Series.TheVariants.{Steps, Owner, Print, Error}
 use Rattle.ps_timelines.specs.declared.lanes.ErrorLabel.{ErrorLabel}
 use Rattle.ps_timelines.specs.declared.lanes.Lane.{Lane}
 use Rattle.ps_timelines.specs.Texts.{escaped, number_text}
-use Rattle.ps_timelines.specs.Levels.{longest_shares, series_levels, spans_of}
+use Rattle.ps_timelines.specs.Levels.{longest_shares, series_levels, intervals_of}
 use Rattle.ps_timelines.specs.Series.{path_text}
 
 -- where a step begins, from the left edge
@@ -24,12 +24,12 @@ place_text x y = number_text (codes "<g transform=\"translate(") x (codes " ")
 
 -- ---- who it is
 
-abbrev pub span_length : Span → ℕ
-span_length span = span.to - span.from
+abbrev pub interval_length : Interval → ℕ
+interval_length interval = interval.to - interval.from
 
--- how many steps spans have, but at most as many as there are
-unfoldable pub count : (steps : ℕ) → List Span → ℕ
-count steps spans = min (sum_by span_length spans) steps
+-- how many steps intervals have, but at most as many as there are
+unfoldable pub count : (steps : ℕ) → List Interval → ℕ
+count steps intervals = min (sum_by interval_length intervals) steps
 
 abbrev pub name_text : (context : ℕ) → List ℕ
 name_text context = number_text (codes "<text x=\"-10\" y=\"14\" class=\"name\">context ") context
@@ -41,7 +41,7 @@ count_text count = number_text (codes "<text x=\"-10\" y=\"28\" class=\"count\">
 
 unfoldable pub head_text : (y : ℕ) → Lane → (steps : ℕ) → List ℕ
 head_text y lane steps = place_text 150 y
-    ++ (name_text lane.context ++ count_text (count steps lane.spans.steps.now))
+    ++ (name_text lane.context ++ count_text (count steps lane.intervals.steps.now))
 
 -- ---- the errors that are told by their text
 
@@ -62,14 +62,15 @@ label_text steps label = label_begin (place steps label.step)
 abbrev pub all_series : List Series
 all_series = Ready ∷ Lock ∷ Condition ∷ Join ∷ Steps ∷ Owner ∷ Print ∷ Error ∷ []
 
-unfoldable pub series_text : (steps : ℕ) → LaneSpans → (longests : List ℕ) → Series → List ℕ
-series_text steps lane_spans longests series =
-    path_text series (series_levels series steps (spans_of lane_spans series) longests)
+unfoldable pub series_text : (steps : ℕ) → LaneIntervals → (longests : List ℕ) → Series → List ℕ
+series_text steps drawn longests series =
+    path_text series (series_levels series steps (intervals_of drawn series) longests)
 
-unfoldable pub all_series_text : (steps : ℕ) → LaneSpans → List ℕ
-all_series_text steps lane_spans = flat_map (series_text steps lane_spans (longest_shares steps lane_spans)) all_series
+unfoldable pub all_series_text : (steps : ℕ) → LaneIntervals → List ℕ
+all_series_text steps drawn =
+    flat_map (series_text steps drawn (longest_shares steps drawn)) all_series
 
 -- of the errors the first four are told
 unfoldable pub lane_text : (steps y : ℕ) → Lane → List ℕ
-lane_text steps y lane = head_text y lane steps ++ (all_series_text steps lane.spans
+lane_text steps y lane = head_text y lane steps ++ (all_series_text steps lane.intervals
     ++ (flat_map (label_text steps) (take 4 lane.labels.now) ++ codes "</g>\n"))

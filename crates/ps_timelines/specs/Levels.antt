@@ -2,8 +2,8 @@
 use Rattle.std.specs.Prelude.{ℕ, zero, suc, ◌*◌, ◌/◌, ◌==◌, List, map, max, min, nat_lt}
 use Rattle.std.specs.Prelude.{slice_index, if◌then◌else◌}
 use Rattle.std.specs.List.{range_with_len}
-use Rattle.ps_timelines.specs.declared.columns.Span.{Span}
-use Rattle.ps_timelines.specs.declared.levels.LaneSpans.{LaneSpans}
+use Rattle.ps_timelines.specs.declared.columns.Interval.{Interval}
+use Rattle.ps_timelines.specs.declared.levels.LaneIntervals.{LaneIntervals}
 use Rattle.ps_timelines.specs.declared.series.Series.{Series}
 use Rattle.ps_timelines.specs.declared.series.Series.TheVariants.{Ready, Lock, Condition, Join}
 use Rattle.ps_timelines.specs.declared.series.Series.TheVariants.{Steps, Owner, Print, Error}
@@ -29,16 +29,16 @@ line_level longest (suc share) = if suc share == longest then 1 else 0
 
 -- ---- what a context does
 
--- the spans of a series
-abbrev pub spans_of : LaneSpans → Series → List Span
-spans_of lane_spans Ready = lane_spans.ready.now
-spans_of lane_spans Lock = lane_spans.lock.now
-spans_of lane_spans Condition = lane_spans.condition.now
-spans_of lane_spans Join = lane_spans.join.now
-spans_of lane_spans Steps = lane_spans.steps.now
-spans_of lane_spans Owner = lane_spans.owner.now
-spans_of lane_spans Print = lane_spans.print.now
-spans_of lane_spans Error = lane_spans.error.now
+-- the intervals of a series
+abbrev pub intervals_of : LaneIntervals → Series → List Interval
+intervals_of drawn Ready = drawn.ready.now
+intervals_of drawn Lock = drawn.lock.now
+intervals_of drawn Condition = drawn.condition.now
+intervals_of drawn Join = drawn.join.now
+intervals_of drawn Steps = drawn.steps.now
+intervals_of drawn Owner = drawn.owner.now
+intervals_of drawn Print = drawn.print.now
+intervals_of drawn Error = drawn.error.now
 
 -- how high a column is marked of which a series has this share
 abbrev pub level_of : Series → (steps longest share : ℕ) → ℕ
@@ -52,18 +52,19 @@ level_of Print steps longest share = min share 1
 level_of Error steps longest share = min share 1
 
 -- the share of the state in which a column's context waits or is ready longest
-unfoldable pub longest_share : (steps : ℕ) → LaneSpans → (column : ℕ) → ℕ
-longest_share steps lane_spans column = longest steps (share steps lane_spans.steps.now column)
-    (max (max (max (share steps lane_spans.ready.now column) (share steps lane_spans.lock.now column))
-    (share steps lane_spans.condition.now column)) (share steps lane_spans.join.now column))
+unfoldable pub longest_share : (steps : ℕ) → LaneIntervals → (column : ℕ) → ℕ
+longest_share steps drawn column = longest steps (share steps drawn.steps.now column)
+    (max (max (max (share steps drawn.ready.now column) (share steps drawn.lock.now column))
+    (share steps drawn.condition.now column)) (share steps drawn.join.now column))
 
-unfoldable pub longest_shares : (steps : ℕ) → LaneSpans → List ℕ
-longest_shares steps lane_spans = map (longest_share steps lane_spans) (range_with_len 0 (columns steps))
+unfoldable pub longest_shares : (steps : ℕ) → LaneIntervals → List ℕ
+longest_shares steps drawn = map (longest_share steps drawn) (range_with_len 0 (columns steps))
 
-unfoldable pub series_level : Series → (steps : ℕ) → List Span → (longests : List ℕ) → (column : ℕ) → ℕ
-series_level series steps spans longests column =
-    level_of series steps (slice_index longests column) (share steps spans column)
+unfoldable pub series_level : Series → (steps : ℕ) → List Interval → (longests : List ℕ)
+    → (column : ℕ) → ℕ
+series_level series steps intervals longests column =
+    level_of series steps (slice_index longests column) (share steps intervals column)
 
-unfoldable pub series_levels : Series → (steps : ℕ) → List Span → (longests : List ℕ) → List ℕ
-series_levels series steps spans longests =
-    map (series_level series steps spans longests) (range_with_len 0 (columns steps))
+unfoldable pub series_levels : Series → (steps : ℕ) → List Interval → (longests : List ℕ) → List ℕ
+series_levels series steps intervals longests =
+    map (series_level series steps intervals longests) (range_with_len 0 (columns steps))

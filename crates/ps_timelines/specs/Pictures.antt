@@ -109,7 +109,8 @@ scale_text steps height = ticks_text steps height ++ axis_text height
 -- those of all kinds
 unfoldable pub all_arrows_text : Timeline → List ℕ
 all_arrows_text told = arrows_text told.steps Starts told.forks.now
-    ++ (arrows_text told.steps Joins told.joins.now ++ arrows_text told.steps Notifies told.notifies.now)
+    ++ (arrows_text told.steps Joins told.joins.now
+    ++ arrows_text told.steps Notifies told.notifies.now)
 
 -- a lane is 30 high, and each next one begins 48 below
 abbrev pub lanes_height : Timeline → ℕ

@@ -74,10 +74,12 @@ column_text series levels column = edge_text series (slice_index (0 ∷ levels) 
     (slice_index levels column) (column * 1000 / length levels)
 
 unfoldable pub edges_text : Series → (levels : List ℕ) → List ℕ
-edges_text series levels = flat_map (column_text series levels) (range_with_len 0 (length levels + 1))
+edges_text series levels =
+    flat_map (column_text series levels) (range_with_len 0 (length levels + 1))
 
 abbrev pub path_head : Series → List ℕ
-path_head series = codes "<path class=\"" ++ (series_word series ++ (codes "\" d=\"" ++ path_begin series))
+path_head series = codes "<path class=\""
+    ++ (series_word series ++ (codes "\" d=\"" ++ path_begin series))
 
 abbrev pub path_tail : Series → List ℕ
 path_tail series = codes "\"><title>" ++ (series_title series ++ codes "</title></path>\n")

@@ -116,7 +116,8 @@ fn append_arrow(
     arrow: Arrow,
     to: &mut Vec<u8>,
 ) -> Result<(), AllocError>
-    ensures appended { OnOk result (to.new.items ≡ to.old.items ++ arrow_text steps relation arrow) }
+    ensures appended { OnOk result
+        (to.new.items ≡ to.old.items ++ arrow_text steps relation arrow) }
     ensures front { take (length to.old.items) to.new.items ≡ to.old.items }
 {
     append_arrow_head(relation, to)?;

@@ -1,4 +1,4 @@
-//! How much of each column of a lane its spans cover.
+//! How much of each column of a lane its intervals cover.
 //!
 //! A run of at most 1,000 steps has a column for each; a longer one has 1,000, and a column is then
 //! a part of the run that needn't begin with a step. So lengths are counted in parts: a step has as
@@ -14,7 +14,7 @@ const MOST_COLUMNS: usize = 1000;
 
 /// Steps of a run one behind another.
 #[derive(Clone, Copy, Debug, PartialEq, Eq)]
-pub struct Span {
+pub struct Interval {
     /// How many steps of the run come before them.
     pub from: u32,
     /// How many steps of the run were made behind the last of them.
@@ -30,52 +30,56 @@ pub(crate) fn columns(steps: u32) -> usize
     (steps as usize).min(MOST_COLUMNS).max(1)
 }
 
-/// How many parts of a column a span covers.
+/// How many parts of a column an interval covers.
 #[tactic(auto, unfolding(crate::specs::Columns::covered))]
-fn covered(steps: u32, column: usize, span: Span) -> usize
+fn covered(steps: u32, column: usize, interval: Interval) -> usize
     requires { column < 1000 }
-    ensures is { result ≡ columns.covered steps column span }
+    ensures is { result ≡ columns.covered steps column interval }
     ensures most { result ≤ steps }
 {
     let width = columns(steps);
     let begin = column * steps as usize;
     let end = begin + steps as usize;
-    let last = (width * span.to as usize).min(end);
-    let first = (width * span.from as usize).max(begin);
+    let last = (width * interval.to as usize).min(end);
+    let first = (width * interval.from as usize).max(begin);
     last.saturating_sub(first)
 }
 
-/// Adds what a span covers of each column, up to the whole column.
-fn add(steps: u32, span: Span, parts: &mut Vec<usize>)
+/// Adds what an interval covers of each column, up to the whole column.
+fn add(steps: u32, interval: Interval, parts: &mut Vec<usize>)
     requires size { length parts.old.items ≡ columns.columns steps }
     requires full { (column : ℕ) → column < columns.columns steps
         → slice_index parts.old.items column ≤ steps }
     ensures size { length parts.new.items ≡ columns.columns steps }
     ensures each { (column : ℕ) → column < columns.columns steps
         → slice_index parts.new.items column
-        ≡ min (slice_index parts.old.items column + columns.covered steps column span) steps }
+        ≡ min (slice_index parts.old.items column + columns.covered steps column interval) steps }
 {
     if steps == 0 {
         return;
     }
     let width = columns(steps);
-    let first = width * span.from as usize / steps as usize;
-    let last = width * span.to as usize / steps as usize + 1;
+    let first = width * interval.from as usize / steps as usize;
+    let last = width * interval.to as usize / steps as usize + 1;
     for column in first..last.min(width) {
-        let sum = parts[column] + covered(steps, column, span);
+        let sum = parts[column] + covered(steps, column, interval);
         parts[column] = sum.min(steps as usize);
     }
 }
 
-/// How many parts of each column spans cover.
-pub(crate) fn shares(alloc: Global, steps: u32, spans: &[Span]) -> Result<Vec<usize>, AllocError>
+/// How many parts of each column intervals cover.
+pub(crate) fn shares(
+    alloc: Global,
+    steps: u32,
+    intervals: &[Interval],
+) -> Result<Vec<usize>, AllocError>
     ensures size { IfOk result (λ parts. length parts.items ≡ columns.columns steps) }
     ensures each { IfOk result (λ parts. (column : ℕ) → column < columns.columns steps
-        → slice_index parts.items column ≡ columns.share steps spans.now column) }
+        → slice_index parts.items column ≡ columns.share steps intervals.now column) }
 {
     let mut parts = vec![in alloc; 0; columns(steps)]?;
-    for span in spans {
-        add(steps, *span, &mut parts);
+    for interval in intervals {
+        add(steps, *interval, &mut parts);
     }
     Ok(parts)
 }

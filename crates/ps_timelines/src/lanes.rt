@@ -8,8 +8,8 @@ ghost use Rattle.ps_timelines.specs.Lanes.{count_text, label_begin, label_text, 
 ghost use Rattle.ps_timelines.specs.Lanes.{lane_text, series_text, all_series_text, name_text, place_text};
 
 use crate::bytes::{append, append_between, append_escaped};
-use crate::columns::Span;
-use crate::levels::{LaneSpans, longest_shares, series_levels, spans_of};
+use crate::columns::Interval;
+use crate::levels::{LaneIntervals, intervals_of, longest_shares, series_levels};
 use crate::series::{ALL_SERIES, Series, append_path};
 use std::alloc::{AllocError, Global};
 
@@ -38,7 +38,7 @@ pub struct ErrorLabel<'a> {
 pub struct Lane<'a> {
     /// Its identifier.
     pub context: u32,
-    pub spans: LaneSpans<'a>,
+    pub intervals: LaneIntervals<'a>,
     /// The errors that are told by their text, by rising step. Of more than four the first four are
     /// told.
     pub labels: &'a [ErrorLabel<'a>],
@@ -53,13 +53,13 @@ pub(crate) struct Scale {
     pub(crate) steps: u32,
 }
 
-/// How many steps spans have, but at most as many as there are.
-fn count(steps: u32, spans: &[Span]) -> usize
-    ensures { result ≡ lanes.count steps spans.now }
+/// How many steps intervals have, but at most as many as there are.
+fn count(steps: u32, intervals: &[Interval]) -> usize
+    ensures { result ≡ lanes.count steps intervals.now }
 {
     let mut sum = 0;
-    for span in spans {
-        sum = (sum + span.to.saturating_sub(span.from) as usize).min(steps as usize);
+    for interval in intervals {
+        sum = (sum + interval.to.saturating_sub(interval.from) as usize).min(steps as usize);
     }
     sum
 }
@@ -158,42 +158,42 @@ fn append_head(y: usize, lane: &Lane<'_>, steps: u32, to: &mut Vec<u8>) -> Resul
 {
     append_place(LANES_LEFT, y, to)?;
     append_name(lane.context, to)?;
-    append_count(count(steps, lane.spans.steps), to)
+    append_count(count(steps, lane.intervals.steps), to)
 }
 
 /// Appends the path of a series.
 fn append_series(
     scale: Scale,
-    lane_spans: &LaneSpans<'_>,
+    drawn: &LaneIntervals<'_>,
     longests: &[usize],
     series: Series,
     to: &mut Vec<u8>,
 ) -> Result<(), AllocError>
     requires { length longests.now ≡ columns scale.steps }
     ensures appended { OnOk result
-        (to.new.items ≡ to.old.items ++ series_text scale.steps lane_spans.now longests.now series) }
+        (to.new.items ≡ to.old.items ++ series_text scale.steps drawn.now longests.now series) }
     ensures front { take (length to.old.items) to.new.items ≡ to.old.items }
 {
-    let spans = spans_of(lane_spans, series);
-    let levels = series_levels(scale.alloc, series, scale.steps, spans, longests)?;
+    let intervals = intervals_of(drawn, series);
+    let levels = series_levels(scale.alloc, series, scale.steps, intervals, longests)?;
     append_path(series, &levels, to)
 }
 
 /// Appends the paths of series, one upon another.
 fn append_each_series(
     scale: Scale,
-    lane_spans: &LaneSpans<'_>,
+    drawn: &LaneIntervals<'_>,
     longests: &[usize],
     all_series: &[Series],
     to: &mut Vec<u8>,
 ) -> Result<(), AllocError>
     requires { length longests.now ≡ columns scale.steps }
     ensures appended { OnOk result (to.new.items ≡ to.old.items
-        ++ flat_map (series_text scale.steps lane_spans.now longests.now) all_series.now) }
+        ++ flat_map (series_text scale.steps drawn.now longests.now) all_series.now) }
     ensures front { take (length to.old.items) to.new.items ≡ to.old.items }
 {
     for series in all_series {
-        append_series(scale, lane_spans, longests, *series, to)?;
+        append_series(scale, drawn, longests, *series, to)?;
     }
     Ok(())
 }
@@ -201,15 +201,15 @@ fn append_each_series(
 /// Appends the paths of all series.
 fn append_all_series(
     scale: Scale,
-    lane_spans: &LaneSpans<'_>,
+    drawn: &LaneIntervals<'_>,
     to: &mut Vec<u8>,
 ) -> Result<(), AllocError>
     ensures appended { OnOk result
-        (to.new.items ≡ to.old.items ++ all_series_text scale.steps lane_spans.now) }
+        (to.new.items ≡ to.old.items ++ all_series_text scale.steps drawn.now) }
     ensures front { take (length to.old.items) to.new.items ≡ to.old.items }
 {
-    let longests = longest_shares(scale.alloc, scale.steps, lane_spans)?;
-    append_each_series(scale, lane_spans, &longests, &ALL_SERIES, to)
+    let longests = longest_shares(scale.alloc, scale.steps, drawn)?;
+    append_each_series(scale, drawn, &longests, &ALL_SERIES, to)
 }
 
 /// Appends the texts of the first errors.
@@ -235,7 +235,7 @@ pub(crate) fn append_lane(
     ensures front { take (length to.old.items) to.new.items ≡ to.old.items }
 {
     append_head(y, lane, scale.steps, to)?;
-    append_all_series(scale, &lane.spans, to)?;
+    append_all_series(scale, &lane.intervals, to)?;
     append_told(scale.steps, lane.labels, to)?;
     append(b"</g>\n", to)
 }

@@ -4,7 +4,7 @@ ghost use Rattle.std.specs.Prelude.{◌≡◌, ◌+◌, ◌*◌, ◌<◌, ◌≤
 ghost use Rattle.ps_timelines.specs.Columns.{columns};
 ghost use Rattle.ps_timelines.specs.Levels as levels;
 
-use crate::columns::{Span, columns, shares};
+use crate::columns::{Interval, columns, shares};
 use crate::series::Series;
 use std::alloc::{AllocError, Global};
 
@@ -57,36 +57,36 @@ fn line_level(longest: usize, share: usize) -> usize
     if share != 0 && share == longest { 1 } else { 0 }
 }
 
-/// What a context does, as its lane shows it: for each state the spans of steps in which it is in
-/// that state. The spans of steps are those that it makes itself, and those of an owner those in
-/// which it has a lock; the other states are those of a context that isn't stepping.
+/// What a context does, as its lane shows it: for each state the intervals of steps in which it is
+/// in that state. Those of `steps` are the steps that it makes itself, and those of `owner` where
+/// it has a lock; in the other states it isn't stepping.
 #[derive(Clone, Copy)]
-pub struct LaneSpans<'a> {
-    pub steps: &'a [Span],
+pub struct LaneIntervals<'a> {
+    pub steps: &'a [Interval],
     /// It may go on, and another does.
-    pub ready: &'a [Span],
-    pub lock: &'a [Span],
-    pub condition: &'a [Span],
-    pub join: &'a [Span],
-    pub owner: &'a [Span],
+    pub ready: &'a [Interval],
+    pub lock: &'a [Interval],
+    pub condition: &'a [Interval],
+    pub join: &'a [Interval],
+    pub owner: &'a [Interval],
     /// The steps that print, and those that fail.
-    pub print: &'a [Span],
-    pub error: &'a [Span],
+    pub print: &'a [Interval],
+    pub error: &'a [Interval],
 }
 
-/// The spans of a series.
-pub(crate) fn spans_of<'a>(lane_spans: &LaneSpans<'a>, series: Series) -> &'a [Span]
-    ensures { result.now ≡ levels.spans_of lane_spans.now series }
+/// The intervals of a series.
+pub(crate) fn intervals_of<'a>(drawn: &LaneIntervals<'a>, series: Series) -> &'a [Interval]
+    ensures { result.now ≡ levels.intervals_of drawn.now series }
 {
     match series {
-        Series::Ready => lane_spans.ready,
-        Series::Lock => lane_spans.lock,
-        Series::Condition => lane_spans.condition,
-        Series::Join => lane_spans.join,
-        Series::Steps => lane_spans.steps,
-        Series::Owner => lane_spans.owner,
-        Series::Print => lane_spans.print,
-        Series::Error => lane_spans.error,
+        Series::Ready => drawn.ready,
+        Series::Lock => drawn.lock,
+        Series::Condition => drawn.condition,
+        Series::Join => drawn.join,
+        Series::Steps => drawn.steps,
+        Series::Owner => drawn.owner,
+        Series::Print => drawn.print,
+        Series::Error => drawn.error,
     }
 }
 
@@ -109,15 +109,15 @@ fn level_of(series: Series, steps: u32, longest: usize, share: usize) -> usize
 pub(crate) fn longest_shares(
     alloc: Global,
     steps: u32,
-    lane_spans: &LaneSpans<'_>,
+    drawn: &LaneIntervals<'_>,
 ) -> Result<Vec<usize>, AllocError>
-    ensures { IfOk result (λ shares. shares.items ≡ levels.longest_shares steps lane_spans.now) }
+    ensures { IfOk result (λ shares. shares.items ≡ levels.longest_shares steps drawn.now) }
 {
-    let stepping = shares(alloc, steps, lane_spans.steps)?;
-    let mut longests = shares(alloc, steps, lane_spans.ready)?;
-    let lock = shares(alloc, steps, lane_spans.lock)?;
-    let condition = shares(alloc, steps, lane_spans.condition)?;
-    let join = shares(alloc, steps, lane_spans.join)?;
+    let stepping = shares(alloc, steps, drawn.steps)?;
+    let mut longests = shares(alloc, steps, drawn.ready)?;
+    let lock = shares(alloc, steps, drawn.lock)?;
+    let condition = shares(alloc, steps, drawn.condition)?;
+    let join = shares(alloc, steps, drawn.join)?;
     for column in 0..columns(steps) {
         let greatest = longests[column]
             .max(lock[column])
@@ -133,14 +133,14 @@ pub(crate) fn series_levels(
     alloc: Global,
     series: Series,
     steps: u32,
-    spans: &[Span],
+    intervals: &[Interval],
     longests: &[usize],
 ) -> Result<Vec<usize>, AllocError>
     requires { length longests.now ≡ columns steps }
     ensures { IfOk result
-        (λ marked. marked.items ≡ levels.series_levels series steps spans.now longests.now) }
+        (λ marked. marked.items ≡ levels.series_levels series steps intervals.now longests.now) }
 {
-    let mut marked = shares(alloc, steps, spans)?;
+    let mut marked = shares(alloc, steps, intervals)?;
     for column in 0..columns(steps) {
         marked[column] = level_of(series, steps, longests[column], marked[column]);
     }

@@ -95,7 +95,8 @@ fn heads() -> &'static [u8]
     b"<defs><marker id=\"k\" markerUnits=\"userSpaceOnUse\" markerWidth=\"9\" markerHeight=\"9\" \
 refX=\"8\" refY=\"4\" orient=\"auto\"><path class=\"head\" d=\"M0 0l8 4l-8 4z\"/></marker>\n\
 <marker id=\"n\" markerUnits=\"userSpaceOnUse\" markerWidth=\"9\" markerHeight=\"9\" \
-refX=\"8\" refY=\"4\" orient=\"auto\"><path class=\"notified\" d=\"M0 0l8 4l-8 4z\"/></marker></defs>\n"
+refX=\"8\" refY=\"4\" orient=\"auto\"><path class=\"notified\" d=\"M0 0l8 4l-8 4z\"/></marker>\
+</defs>\n"
 }
 
 /// The first unit of which at most ten fit a run; 0, where there is none.

@@ -166,7 +166,8 @@ fn append_edge(
     x: usize,
     to: &mut Vec<u8>,
 ) -> Result<(), AllocError>
-    ensures appended { OnOk result (to.new.items ≡ to.old.items ++ edge_text series before level x) }
+    ensures appended { OnOk result
+        (to.new.items ≡ to.old.items ++ edge_text series before level x) }
     ensures front { take (length to.old.items) to.new.items ≡ to.old.items }
 {
     if before == level {

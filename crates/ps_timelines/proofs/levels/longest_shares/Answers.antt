@@ -21,16 +21,16 @@ pub longest-requires : goal.longest-requires
 longest-requires c =
     let l = c.loop-column in
     let within : l.column < columns c.args.steps = omega (arith, c.columns-column-end.ensures.is) in
-    let is : c.index-in-loop-column-4.result.now ≡ share c.args.steps c.args.lane_spans.now.steps.now l.column =
+    let is : c.index-in-loop-column-4.result.now ≡ share c.args.steps c.args.drawn.now.steps.now l.column =
     read c.in_ok-stepping.stepping.items (columns c.args.steps) l.column _ _ c.in_ok-stepping.ensures.size within
     c.index-in-loop-column-4.ensures (c.in_ok-stepping.ensures.each l.column within) in
-    omega (arith, is, at_most_whole c.args.steps l.column c.args.lane_spans.now.steps.now)
+    omega (arith, is, at_most_whole c.args.steps l.column c.args.drawn.now.steps.now)
 
 pub loop-column-preserved : goal.loop-column-preserved
 unfolding longest_share
 loop-column-preserved c =
     let l = c.loop-column in
-    let s = c.args.lane_spans.now in
+    let s = c.args.drawn.now in
     let n = columns c.args.steps in
     let within : l.column < columns c.args.steps = omega (arith, c.columns-column-end.ensures.is) in
     let ready : c.index.result.now ≡ share c.args.steps s.ready.now l.column =
@@ -68,6 +68,6 @@ loop-column-preserved c =
 pub returns : goal.returns
 unfolding longest_shares
 returns c =
-    fill_by_all (longest_share c.args.steps c.args.lane_spans.now) c.loop-column.longests.items
+    fill_by_all (longest_share c.args.steps c.args.drawn.now) c.loop-column.longests.items
     (columns c.args.steps) 0 c.loop-column.invariant.size
     (λ k w. c.loop-column.invariant.done k (omega (arith, c.columns-column-end.ensures.is)))

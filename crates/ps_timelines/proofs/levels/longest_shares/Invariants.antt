@@ -7,7 +7,7 @@ use Rattle.ps_timelines.proofs.levels.longest_shares.Given as goal
 abbrev pub invariant-loop-column : goal.invariant-loop-column
 invariant-loop-column l = record {
   size : length l.longests.items ≡ columns l.steps;
-  done : (k : ℕ) → k < l.column → get_or l.longests.items k 0 ≡ longest_share l.steps l.lane_spans k;
+  done : (k : ℕ) → k < l.column → get_or l.longests.items k 0 ≡ longest_share l.steps l.drawn k;
   rest : (k : ℕ) → l.column ≤ k → k < columns l.steps
-      → get_or l.longests.items k 0 ≡ share l.steps l.lane_spans.ready.now k;
+      → get_or l.longests.items k 0 ≡ share l.steps l.drawn.ready.now k;
 }

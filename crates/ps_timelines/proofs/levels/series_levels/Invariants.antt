@@ -8,7 +8,7 @@ abbrev pub invariant-loop-column : goal.invariant-loop-column
 invariant-loop-column l = record {
   size : length l.marked.items ≡ columns l.steps;
   done : (k : ℕ) → k < l.column
-      → get_or l.marked.items k 0 ≡ series_level l.series l.steps l.spans l.longests k;
+      → get_or l.marked.items k 0 ≡ series_level l.series l.steps l.intervals l.longests k;
   rest : (k : ℕ) → l.column ≤ k → k < columns l.steps
-      → get_or l.marked.items k 0 ≡ share l.steps l.spans k;
+      → get_or l.marked.items k 0 ≡ share l.steps l.intervals k;
 }
