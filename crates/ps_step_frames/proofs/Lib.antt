@@ -18,3 +18,4 @@ pub mod Taking
 pub mod Telling
 pub mod Unchanged
 pub mod Unframed
+mod Waiting

@@ -22,19 +22,20 @@ use Rattle.ps_ops_control.specs.declared.frames.Frame.{Frame}
 use Rattle.ps_ops_control.specs.declared.frames.Frame.TheVariants.{Text, Procedure}
 use Rattle.ps_ops_control.specs.declared.ahead.Ahead.{Ahead}
 use Rattle.ps_ops_control.specs.Ahead.{OnDone, frames_ahead}
+use Rattle.ps_ops_control.specs.Controls.{Stacks}
 use Rattle.ps_ops_control.specs.Turns.{cause_of}
 use Rattle.ps_ops_state.specs.declared.lent.Attempt.{Attempt}
 use Rattle.ps_ops_state.specs.Acts.{Asked, no_rooms}
-use Rattle.ps_ops_state.specs.Lent.{Lent, scene_of, around_of}
+use Rattle.ps_ops_state.specs.Lent.{Lent, scene_of, around_of, IsGood}
 use Rattle.ps_ops_state.specs.Attempts.{ordinary}
 use Rattle.ps_ops_state.specs.Unframed.{IsUndone}
 use Rattle.ps_step_outcome.specs.declared.turned.Turned.{Turned}
 use Rattle.ps_step_outcome.specs.declared.turned.Turned.TheVariants.{Goes, Breaks, Ends}
-use Rattle.ps_step_outcome.specs.Turns.{is_told, none_asked, break_turn, Turns}
+use Rattle.ps_step_outcome.specs.Turns.{is_told, none_asked, break_turn, Turns, TurnsWith}
 use Rattle.ps_step_execute.specs.declared.under.Under.{Under}
 use Rattle.ps_step_execute.specs.declared.under.Under.TheVariants as under
 use Rattle.ps_step_execute.specs.Quick.{TreatsAs}
-use Rattle.ps_step_execute.specs.Values.{Asks, done_asks}
+use Rattle.ps_step_execute.specs.Values.{Asks, done_asks, treated_asks, treated_turn}
 use Rattle.ps_step_frames.specs.declared.elements.Element.{Element}
 use Rattle.ps_step_frames.specs.Binds.{replaces}
 
@@ -182,6 +183,16 @@ DoesUnder asks rest slot under.Done old new =
     (with_frames (rest_frames rest new.frames) new)
 DoesUnder asks rest slot under.Fails old new = IsUndone slot old new
 DoesUnder asks rest slot under.Left old new = new ≡ old
+
+-- whatever is lent beside these stacks and however it is tried, treating a value goes on by them
+-- alone
+abbrev pub TreatsTo : (value : Word) → (old new : Stacks) → Type 0
+TreatsTo value old new =
+    (asks : Asks) (command : Word) (l : Lent) (attempt : Attempt)
+    → IsGood (record l { operands = old.operands; frames = old.frames })
+    → TurnsWith (value ∷ command ∷ []) [] (treated_asks asks value) (treated_turn command value)
+    attempt (Ok Goes) (record l { operands = old.operands; frames = old.frames })
+    (record l { operands = new.operands; frames = new.frames })
 
 -- of bind, in what is lent
 abbrev pub bind_asks : (over : Part) → (at : ℕ) → Lent → Store → Asked

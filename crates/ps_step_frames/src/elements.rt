@@ -1,17 +1,22 @@
 //! Steps by the elements of a procedure, and by a value that waits (PLRM2, 3.5).
 
-ghost use Rattle.std.specs.Prelude.{◌≡◌, ◌<◌, ◌∷◌, [], Some, IfSome, length};
+ghost use Rattle.std.specs.Prelude.{◌≡◌, ◌<◌, ◌∷◌, [], Some, IfSome, length, true, false};
 ghost use Rattle.ps_language.specs.Limits.{frame_limit};
+ghost use Rattle.ps_word.specs.Format.{IsWord};
+ghost use Rattle.ps_ops_control.specs.Controls.{stacks};
 ghost use Rattle.ps_ops_state.specs.Lent.{lent_of, IsGood};
 ghost use Rattle.ps_stacks.specs.Tops.{first_of};
 ghost use Rattle.ps_mem.specs.Shows.{IsValue};
 ghost use Rattle.ps_step_outcome.specs.Turns.{Turns, TurnsWith};
 ghost use Rattle.ps_step_execute.specs.Values.{treated_asks, treated_turn};
 ghost use Rattle.ps_step_frames.specs.Steps.{above, frame_asks, running_turn, DoesUnder, IsElement};
+ghost use Rattle.ps_step_frames.specs.Steps.{TreatsTo};
 
 use crate::frames::{advance, drop_top, push_rest, put_back};
+use ps_language::operators::Operator;
 use ps_mem::{Memory, Slot};
-use ps_ops_control::frames::{Frame, push_frame};
+use ps_ops_control::frames::{Frame, Frames, push_frame};
+use ps_ops_operands::Operands;
 use ps_ops_operands::failure::NotMade;
 use ps_ops_state::lent::{Attempt, Context, Runtime};
 use ps_seq::arrays::element;
@@ -58,6 +63,31 @@ pub fn procedure_turn<O: Operate, M: Memory>(
     }
 }
 
+/// `exec` acts, where a value is that, there is an operand, and a frame has room: the operand waits in
+/// it. Else nothing has changed, and the answer is no.
+#[inline]
+fn exec_quickly(value: Word, operands: &mut Operands, frames: &mut Frames) -> bool
+    requires word { IsWord value.0 }
+    ensures operands { result ≡ false → operands.new ≡ operands.old }
+    ensures frames { result ≡ false → frames.new ≡ frames.old }
+    ensures treats { result ≡ true → TreatsTo value (stacks operands.old frames.old)
+        (stacks operands.new frames.new) }
+{
+    match value.executable_operator() {
+        Some(Operator::Exec) => {}
+        _ => return false,
+    }
+    let Some(word) = operands.top() else {
+        return false;
+    };
+    if frames.is_full() {
+        return false;
+    }
+    operands.discard(1);
+    push_frame(frames, Frame::Pending { word });
+    true
+}
+
 /// A value is treated, by a call of its own: what is left of the procedure stays in registers.
 #[inline(never)]
 fn treat_apart<O: Operate, M: Memory>(
@@ -102,6 +132,9 @@ fn element_turn<O: Operate, M: Memory>(
 {
     let Element { word, value } = element;
     push_rest(&mut context.frames, rest);
+    if exec_quickly(value, &mut context.operands, &mut context.frames) {
+        return Ok(Turned::Goes);
+    }
     match treat_apart::<O, M>(value, word, context, runtime, attempt) {
         Ok(turned) => Ok(turned),
         Err(reason) => {
