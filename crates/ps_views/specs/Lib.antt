@@ -1,4 +1,5 @@
 pub mod Bytes
+pub mod Cuts
 pub mod Frames
 pub mod Lines
 pub mod Orders

@@ -11,6 +11,7 @@
 #![tactic(auto)]
 
 mod bytes;
+mod cuts;
 mod frames;
 mod lines;
 mod orders;
@@ -19,6 +20,7 @@ mod sources;
 mod states;
 mod steps;
 
+pub use cuts::{CutLine, Turn, append_cut_line};
 pub use frames::{Coming, FrameLine, append_frame};
 pub use lines::append_label;
 pub use orders::{EndingLine, Outcome, Reach, append_ending, append_reach};
