@@ -1,6 +1,6 @@
 //! Every order of a program's steps with at most so many cuts.
 
-ghost use Rattle.std.specs.Prelude.{◌≡◌, ◌+◌, ◌<◌, ◌≤◌, ℕ, All, IfOk};
+ghost use Rattle.std.specs.Prelude.{◌≡◌, ◌+◌, ◌<◌, ◌≤◌, ℕ, length, All, IfOk};
 ghost use Rattle.ps_cuts.specs.Cuts.{EveryEnding};
 ghost use Rattle.ps_cuts.specs.Runs.{EndsAsTold, IsToldOf};
 
@@ -17,7 +17,8 @@ use std::alloc::AllocError;
 /// ending once, with an order that ends so and as few cuts as any such.
 ///
 /// All orders with fewer cuts than `below` were explored. It is less than one more than the price
-/// only where as many runs were made as may be, and one more was to be made.
+/// only where as many runs were made as may be, and one more was to be made. There are no more endings
+/// than runs, and there is one where a run may be made.
 /// `AllocError`: a growth was refused, more was to be printed than may be, or a schedule to have more
 /// entries.
 pub fn explore_orders<S: Interpret + Clone + Drop, D: Deeds + Clone + Drop, W: Watcher + Drop>(
@@ -32,6 +33,8 @@ pub fn explore_orders<S: Interpret + Clone + Drop, D: Deeds + Clone + Drop, W: W
     ensures below { IfOk result (λ found. found.below ≤ bounds.price + 1) }
     ensures met { IfOk result (λ found. found.below ≤ bounds.price → found.runs ≡ bounds.runs) }
     ensures runs { IfOk result (λ found. found.runs ≤ bounds.runs) }
+    ensures fewer { IfOk result (λ found. length found.endings.entries ≤ found.runs) }
+    ensures some { 1 ≤ bounds.runs → IfOk result (λ found. 1 ≤ length found.endings.entries) }
 {
     search(runs.alloc, runs, bounds, watcher)
 }

@@ -1,6 +1,6 @@
 -- What is told, and what a map of it has.
-use Rattle.std.proofs.Common.{◌≡◌, suc, Bool, true, false, cond, List, [], ◌∷◌, None, Some, refl, sym, ◌∙◌, ap, arith}
-use Rattle.std.specs.Prelude.{Any, Contains, Option, is_some}
+use Rattle.std.proofs.Common.{◌≡◌, ◌≤◌, ◌+◌, ℕ, inl, inr, length, length-append, ◌++◌, suc, Bool, true, false, cond, List, [], ◌∷◌, None, Some, refl, sym, ◌∙◌, ap, arith}
+use Rattle.std.specs.Prelude.{◌⊎◌, Any, Contains, Option, is_some}
 use Rattle.std.specs.Map.{lookup}
 use Rattle.std.proofs.lemmas.Bool.{true≢false}
 use Rattle.std.proofs.lemmas.List.Elements.{All-contains, All-from_recursion}
@@ -18,6 +18,19 @@ among_of P xs some = (some.0, some.2, some.3)
 pub none_of : {X : Type 0} (found : Option X) → is_some found ≡ false → found ≡ None
 none_of None is = refl
 none_of (Some one) is = absurd (true≢false is)
+
+-- an element is there then, and one more at most
+pub added_count : {X : Type 0} (P : X → Type 0) (Q : Type 0) (old : List X) (one : X)
+    (new : List X) → ((new ≡ old) × Any P old) ⊎ ((new ≡ old ++ one ∷ []) × Q)
+    → (length new ≤ length old + 1) × (1 ≤ length new)
+added_count P Q old one new (inl is) =
+    let same = ap {B = ℕ} length is.0 in
+    let some = is.1.2 in (omega (arith, same), omega (arith, same, some))
+added_count P Q old one new (inr is) =
+    let same = ap {B = ℕ} length is.0 ∙ length-append old (one ∷ []) in (
+      omega (arith, same),
+      omega (arith, same),
+    )
 
 -- ---- entries
 

@@ -143,19 +143,26 @@ Keeps Ends old new = (schedule : List ℕ) → IsAmongTold Ends old schedule
 
 -- ---- a search under way
 
+-- no more runs were made than may be; the first run is told, and each tells one ending at most
+pub record IsCounted {E S W : Type 0} (search : Search E S W) : Type 0 where
+  pub within : search.runs ≤ search.bounds.runs
+  pub fewer : length search.endings.entries ≤ search.runs
+  pub some : 1 ≤ search.runs → 1 ≤ length search.endings.entries
+
 module _ {E S W : Type 0} (price : Prices) (Ends : (schedule : List ℕ) → E → Type 0)
     (Makes : S → (path : List ℕ) → Type 0) where
   -- it may go on from a path, with so many steps left, which are to cost so much
   pub record MayGoOn (search : Search E S W) (path : List ℕ) (left toll : ℕ) : Type 0 where
     pub way : IsOnWay price search.bounds.steps search.price path left toll
     pub told : AreTold price Ends Makes search.bounds.steps search.price search.endings.entries
-    pub runs : search.runs ≤ search.bounds.runs
+    pub runs : IsCounted search
 
   -- it went on, within its bounds, at the same price
   pub record GoesOn (old new : Search E S W) : Type 0 where
     pub told : AreTold price Ends Makes new.bounds.steps new.price new.endings.entries
     pub keeps : Keeps Ends old.endings.entries new.endings.entries
-    pub runs : new.runs ≤ new.bounds.runs
+    pub runs : IsCounted new
+    pub more : old.runs ≤ new.runs
     pub bounds : new.bounds ≡ old.bounds
     pub same : new.price ≡ old.price
 

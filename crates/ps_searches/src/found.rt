@@ -67,22 +67,23 @@ impl<E: Eq + Hash + Drop, S: Drop, W: Watcher + Drop> Search<E, S, W> {
     }
 
     /// A run ended so: it is counted, and its ending is kept where none before it was equal. Fails
-    /// where that finds no room.
+    /// where that finds no room; neither is done then.
     pub(crate) fn tell(&mut self, ending: E, schedule: S) -> Result<(), AllocError>
         requires { self.old.runs < self.old.bounds.runs }
         ensures endings { OnOk result (AddsEnding E.eq self.old.endings.entries
             (ending, record { price = self.old.price; schedule = schedule })
             self.new.endings.entries) }
         ensures none { OnErr result (self.new.endings.entries ≡ self.old.endings.entries) }
-        ensures runs { self.new.runs ≡ self.old.runs + 1 }
+        ensures runs { OnOk result (self.new.runs ≡ self.old.runs + 1) }
+        ensures no_run { OnErr result (self.new.runs ≡ self.old.runs) }
         ensures bounds { self.new.bounds ≡ self.old.bounds }
         ensures price { self.new.price ≡ self.old.price }
     {
-        self.runs += 1;
         let price = self.price;
         if !self.endings.contains_key(&ending) {
             self.endings.insert(ending, Told { price, schedule })?;
         }
+        self.runs += 1;
         self.watcher.run_ended(self.runs, self.endings.len(), price);
         Ok(())
     }

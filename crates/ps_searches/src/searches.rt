@@ -1,7 +1,7 @@
 //! A search: along the steps that cost nothing, and from each other step that can be paid.
 
-ghost use Rattle.std.specs.Prelude.{◌≡◌, ◌+◌, ◌-◌, ◌<◌, ◌≤◌, ◌++◌, ◌∷◌, [], ℕ, Some, IsSome, All, IfOk, OnOk, IsErrOf};
-ghost use Rattle.ps_searches.specs.Searches.{EveryEnding, IsTold, AllTold, MayGoOn, GoesOn, IsUsedUp};
+ghost use Rattle.std.specs.Prelude.{◌≡◌, ◌+◌, ◌-◌, ◌<◌, ◌≤◌, ◌++◌, ◌∷◌, [], ℕ, length, Some, IsSome, All, IfOk, OnOk, IsErrOf};
+ghost use Rattle.ps_searches.specs.Searches.{EveryEnding, IsTold, AllTold, MayGoOn, GoesOn, IsCounted, IsUsedUp};
 
 use crate::found::{Bounds, Found, Search};
 use crate::trees::{RunTree, Watcher};
@@ -41,6 +41,7 @@ fn tell_end<T: RunTree, W: Watcher + Drop>(
     ensures all { OnOk result (AllTold (T.price tree.now) (T.Ends tree.now) left 0 (T.path run)
         search.new.endings.entries) }
     ensures met { IsErrOf result Stop.Runs → IsUsedUp search.new }
+    ensures one { OnOk result (1 ≤ search.new.runs) }
 {
     if search.runs >= search.bounds.runs {
         return Err(Stop::Runs);
@@ -73,6 +74,7 @@ fn explore<T: RunTree, W: Watcher + Drop>(
     ensures all { OnOk result (AllTold (T.price tree.now) (T.Ends tree.now) rest.steps rest.price
         (T.path run) search.new.endings.entries) }
     ensures met { IsErrOf result Stop.Runs → IsUsedUp search.new }
+    ensures one { OnOk result (rest.price ≡ 0 → 1 ≤ search.new.runs) }
 {
     if rest.price == 0 {
         return tell_end(tree, run, rest.steps, search);
@@ -149,6 +151,8 @@ pub fn search<T: RunTree, W: Watcher + Drop>(
     ensures below { IfOk result (λ found. found.below ≤ bounds.price + 1) }
     ensures met { IfOk result (λ found. found.below ≤ bounds.price → found.runs ≡ bounds.runs) }
     ensures runs { IfOk result (λ found. found.runs ≤ bounds.runs) }
+    ensures fewer { IfOk result (λ found. length found.endings.entries ≤ found.runs) }
+    ensures some { 1 ≤ bounds.runs → IfOk result (λ found. 1 ≤ length found.endings.entries) }
 {
     let mut search = Search::new(alloc, bounds, watcher);
     let found = explore_all(tree, &mut search);
@@ -174,7 +178,8 @@ fn explore_all<T: RunTree, W: Watcher + Drop>(
         search.old.bounds.steps) search.new.endings.entries }
     ensures below { IfOk result (λ below. below ≤ search.old.bounds.price + 1) }
     ensures met { IfOk result (λ below. below ≤ search.old.bounds.price → IsUsedUp search.new) }
-    ensures runs { search.new.runs ≤ search.new.bounds.runs }
+    ensures runs { IsCounted search.new }
+    ensures one { 1 ≤ search.old.bounds.runs → OnOk result (1 ≤ search.new.runs) }
     ensures bounds { search.new.bounds ≡ search.old.bounds }
 {
     let most = search.bounds.price;

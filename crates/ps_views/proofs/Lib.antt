@@ -1,4 +1,5 @@
 mod Examples
+mod OrderExamples
 mod StateExamples
 pub mod Appended
 pub mod Callers

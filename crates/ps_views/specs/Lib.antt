@@ -1,6 +1,8 @@
 pub mod Bytes
+pub mod Cuts
 pub mod Frames
 pub mod Lines
+pub mod Orders
 pub mod Places
 pub mod Sources
 pub mod States

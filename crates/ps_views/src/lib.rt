@@ -1,5 +1,5 @@
 //! What a run shows of itself, as text: where an error is, what the state is behind so many steps,
-//! and what each step does.
+//! what each step does, and how runs ended.
 //!
 //! Why so:
 //! - A text is told by a plain struct, whoever finds out what it holds. So this crate knows neither
@@ -11,15 +11,19 @@
 #![tactic(auto)]
 
 mod bytes;
+mod cuts;
 mod frames;
 mod lines;
+mod orders;
 mod places;
 mod sources;
 mod states;
 mod steps;
 
+pub use cuts::{CutLine, Turn, append_cut_line};
 pub use frames::{Coming, FrameLine, append_frame};
 pub use lines::append_label;
+pub use orders::{EndingLine, Outcome, Reach, append_ending, append_reach};
 pub use places::{Caller, ErrorPlace, Spot, append_place, spot_at};
 pub use states::{
     ContextHead, StateHead, StatusLine, append_context, append_dictionary, append_head,

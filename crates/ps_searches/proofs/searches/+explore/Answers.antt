@@ -23,6 +23,7 @@ explore-loop-context-init g t c =
       path = refl;
       told = c.loop-rest.invariant.told;
       runs = c.loop-rest.invariant.runs;
+      more = omega arith;
       bounds = refl;
       at = refl;
       keeps = λ schedule among. among;
@@ -45,6 +46,7 @@ explore-loop-context-preserved g t c =
       path = c.explore_other.ensures.path ∙ same;
       told = on.told;
       runs = on.runs;
+      more = let before = c.loop-context.invariant.more in omega (arith, on.more, before);
       bounds = on.bounds ∙ c.loop-context.invariant.bounds;
       at = on.same ∙ c.loop-context.invariant.at;
       keeps = λ schedule among. on.keeps schedule
@@ -86,6 +88,7 @@ explore-loop-rest-preserved g t c =
           c.loop-rest.invariant.way) free some next;
       told = c.loop-context.invariant.told;
       runs = c.loop-context.invariant.runs;
+      more = omega (arith, c.loop-rest.invariant.more, c.loop-context.invariant.more);
       bounds = c.loop-context.invariant.bounds ∙ c.loop-rest.invariant.bounds;
       at = c.loop-context.invariant.at ∙ c.loop-rest.invariant.at;
       keeps = λ schedule among. c.loop-context.invariant.keeps schedule

@@ -1,7 +1,7 @@
 use Rattle.std.proofs.Common.{◌≡◌, ◌≤◌, ◌++◌, ◌∷◌, [], ℕ, Some, ◌-◌, ◌*◌, ◌^◌}
 use Rattle.std.specs.Prelude.{List}
 use Rattle.ps_searches.specs.declared.found.Told.{Told}
-use Rattle.ps_searches.specs.Searches.{AllTold, AreTold, IsOnWay, Keeps}
+use Rattle.ps_searches.specs.Searches.{AllTold, AreTold, IsCounted, IsOnWay, Keeps}
 use Rattle.ps_searches.proofs.searches.+explore.Given as goal
 
 abbrev pub decreases-explore : goal.decreases-explore
@@ -23,7 +23,8 @@ invariant-explore-loop-rest g l =
           l.rest.steps l.rest.price;
       told : AreTold price Ends g.T.RunTree.Makes l.search.bounds.steps l.search.price
           l.search.endings.entries;
-      runs : l.search.runs ≤ l.search.bounds.runs;
+      runs : IsCounted l.search;
+      more : l.fn.search.runs ≤ l.search.runs;
       bounds : l.search.bounds ≡ l.fn.search.bounds;
       at : l.search.price ≡ l.fn.search.price;
       keeps : Keeps Ends l.fn.search.endings.entries l.search.endings.entries;
@@ -46,7 +47,8 @@ invariant-explore-loop-context g l =
       path : g.T.RunTree.path l.run ≡ g.T.RunTree.path l.initial.run;
       told : AreTold price Ends g.T.RunTree.Makes l.search.bounds.steps l.search.price
           l.search.endings.entries;
-      runs : l.search.runs ≤ l.search.bounds.runs;
+      runs : IsCounted l.search;
+      more : l.initial.search.runs ≤ l.search.runs;
       bounds : l.search.bounds ≡ l.initial.search.bounds;
       at : l.search.price ≡ l.initial.search.price;
       keeps : Keeps Ends l.initial.search.endings.entries l.search.endings.entries;

@@ -1,4 +1,5 @@
-use Rattle.std.proofs.Common.{◌+◌, ℕ, arith, sym, ◌∙◌, ap, subst}
+use Rattle.std.proofs.Common.{◌+◌, ℕ, inl, inr, arith, sym, ◌∙◌, ap, subst}
+use Rattle.std.proofs.lemmas.Bool.{cases_lt}
 use Rattle.ps_searches.specs.declared.found.Bounds.{Bounds}
 use Rattle.ps_searches.specs.Searches.{EveryEnding}
 use Rattle.ps_searches.proofs.Covering.{one_price_more}
@@ -13,6 +14,14 @@ loop-below-preserved g c =
       most = c.loop-below.invariant.most;
       bounds = c.in-Ok.ensures.on.bounds ∙ c.loop-below.invariant.bounds;
       runs = c.in-Ok.ensures.on.runs;
+      one = λ some.
+          let more = c.in-Ok.ensures.on.more in
+          elim (cases_lt 0 c.loop-below.below) [
+            | inl later ↦
+                let before = c.loop-below.invariant.one later in
+                omega (arith, before, more)
+            | inr first ↦ c.in-Ok.ensures.one (omega (arith, first))
+          ];
       told = record {
         each = c.in-Ok.ensures.on.told.each;
         cheaper = subst (λ (n : ℕ). EveryEnding price Ends n (c.loop-below.below + 1)

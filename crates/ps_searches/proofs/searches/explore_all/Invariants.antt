@@ -1,5 +1,5 @@
 use Rattle.std.proofs.Common.{◌≡◌, ◌≤◌, ◌+◌, ◌-◌}
-use Rattle.ps_searches.specs.Searches.{AreTold}
+use Rattle.ps_searches.specs.Searches.{AreTold, IsCounted}
 use Rattle.ps_searches.proofs.searches.explore_all.Given as goal
 
 -- what is cheaper than this was explored
@@ -8,7 +8,8 @@ invariant-loop-below g l = record {
   within : l.below ≤ l.most + 1;
   most : l.most ≡ l.fn.search.bounds.price;
   bounds : l.search.bounds ≡ l.fn.search.bounds;
-  runs : l.search.runs ≤ l.search.bounds.runs;
+  runs : IsCounted l.search;
+  one : 1 ≤ l.below → 1 ≤ l.search.runs;
   told : AreTold (g.T.RunTree.price l.tree) (g.T.RunTree.Ends l.tree) g.T.RunTree.Makes
       l.search.bounds.steps l.below l.search.endings.entries;
 }

@@ -2,6 +2,7 @@ use Rattle.std.proofs.Common.{◌≤◌, ap, arith, refl, subst, sym}
 use Rattle.ps_searches.specs.declared.found.Bounds.{Bounds}
 use Rattle.ps_searches.specs.Searches.{IsAmongTold}
 use Rattle.ps_searches.proofs.Covering.{added_is, added_keeps, added_told, told_entries, told_freely, told_same}
+use Rattle.ps_searches.proofs.Telling.{added_count}
 use Rattle.ps_searches.proofs.searches.tell_end.Goals as goal
 
 pub returns-in_err-tell-clause-on : goal.returns-in_err-tell-clause-on
@@ -14,8 +15,16 @@ returns-in_err-tell-clause-on g c = record {
   keeps = λ schedule among. subst
       (λ told. IsAmongTold (g.T.RunTree.Ends c.args.tree.now) told schedule)
       (sym c.in_err-tell.ensures.none) among;
-  runs = subst (λ (b : Bounds). c.tell.new.self.runs ≤ b.runs) (sym c.tell.ensures.bounds)
-      (omega (arith, c.tell.ensures.runs, c.if-search.false));
+  runs = record {
+    within = subst (λ (b : Bounds). c.tell.new.self.runs ≤ b.runs) (sym c.tell.ensures.bounds)
+        (omega (arith, c.in_err-tell.ensures.no_run, c.if-search.false));
+    fewer = rw c.in_err-tell.ensures.none
+        (let before = c.requires.may.runs.fewer in
+        omega (arith, before, c.in_err-tell.ensures.no_run));
+    some = rw c.in_err-tell.ensures.none (λ some. c.requires.may.runs.some
+        (omega (arith, some, c.in_err-tell.ensures.no_run)));
+  };
+  more = omega (arith, c.in_err-tell.ensures.no_run);
   bounds = c.tell.ensures.bounds;
   same = c.tell.ensures.price;
 }
@@ -32,8 +41,14 @@ returns-clause-on g c = record {
   keeps = added_keeps (g.T.RunTree.price c.args.tree.now) (g.T.RunTree.Ends c.args.tree.now) _
       (g.met.T.RunTree.equal c.args.tree.now) g.T.RunTree.Makes _ _ _
       c.in_ok-tell.ensures.endings;
-  runs = subst (λ (b : Bounds). c.tell.new.self.runs ≤ b.runs) (sym c.tell.ensures.bounds)
-      (omega (arith, c.tell.ensures.runs, c.if-search.false));
+  runs = let count = added_count _ _ _ _ _ c.in_ok-tell.ensures.endings in record {
+    within = subst (λ (b : Bounds). c.tell.new.self.runs ≤ b.runs) (sym c.tell.ensures.bounds)
+        (omega (arith, c.in_ok-tell.ensures.runs, c.if-search.false));
+    fewer = let before = c.requires.may.runs.fewer in
+        omega (arith, before, count.0, c.in_ok-tell.ensures.runs);
+    some = λ some. count.1;
+  };
+  more = omega (arith, c.in_ok-tell.ensures.runs);
   bounds = c.tell.ensures.bounds;
   same = c.tell.ensures.price;
 }

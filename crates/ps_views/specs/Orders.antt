@@ -1,0 +1,52 @@
+-- The lines that tell how runs ended, in each order of a program's steps with few cuts.
+use Rattle.std.specs.Prelude.{ℕ, ◌==◌, ◌-◌, List, [], ◌++◌, nat_lt, codes, if◌then◌else◌}
+use Rattle.std.specs.Fmt.{decimal}
+use Rattle.ps_views.specs.declared.orders.EndingLine.{EndingLine}
+use Rattle.ps_views.specs.declared.orders.Outcome.{Outcome}
+use Rattle.ps_views.specs.declared.orders.Outcome.TheVariants.{Finished, Faulted, AllWaiting}
+use Rattle.ps_views.specs.declared.orders.Outcome.TheVariants.{StepsOut, Memory}
+use Rattle.ps_views.specs.declared.orders.Reach.{Reach}
+
+-- so many of a thing
+abbrev pub counted : ℕ → (thing : List ℕ) → List ℕ
+counted number thing =
+    decimal number ++ (codes " " ++ (thing ++ (if number == 1 then [] else codes "s")))
+
+-- ---- the orders that were explored
+
+-- those with fewer cuts than this
+abbrev pub whole_text : (below : ℕ) → List ℕ
+whole_text below = if below == 0 then codes "not all orders with 0 cuts"
+    else codes "all orders with at most " ++ counted (below - 1) (codes "cut")
+
+-- where that isn't as many cuts as there may be: more runs were to be made than may be
+abbrev pub limit_text : Reach → List ℕ
+limit_text reach = if nat_lt reach.cuts reach.below then []
+    else codes "; more than " ++ counted reach.runs (codes "run")
+
+unfoldable pub reach_line : Reach → List ℕ
+reach_line reach = whole_text reach.below ++ (limit_text reach ++ codes "\n")
+
+-- ---- an ending
+
+abbrev pub outcome_text : Outcome → List ℕ
+outcome_text Finished = codes "finished"
+outcome_text Faulted = codes "finished with errors"
+outcome_text AllWaiting = codes "all contexts wait"
+outcome_text StepsOut = codes "steps used up"
+outcome_text Memory = codes "out of memory"
+
+-- which it is, and the fewest cuts of an order that ends so
+abbrev pub which_text : EndingLine → List ℕ
+which_text told = codes "ending "
+    ++ (decimal told.number ++ (codes ": " ++ counted told.cuts (codes "cut")))
+
+-- its steps, its outcome and how much was printed
+abbrev pub came_to : EndingLine → List ℕ
+came_to told = codes ", " ++ (counted told.steps (codes "step") ++ (codes ", "
+    ++ (outcome_text told.outcome ++ codes ", ")))
+
+-- ending NUMBER: NUMBER cuts, NUMBER steps, OUTCOME, NUMBER bytes
+unfoldable pub ending_line : EndingLine → List ℕ
+ending_line told = which_text told
+    ++ (came_to told ++ (counted told.printed (codes "byte") ++ codes "\n"))
