@@ -103,6 +103,13 @@ impl Progress for TerminalLine<'_> {
         }
     }
 
+    fn show_orders(&mut self, runs: u64, endings: usize, cuts: u32) {
+        if self.is_due() {
+            self.is_shown = true;
+            let _ = eprint!(self.rt; "\rdpsrun: {runs} runs, {endings} endings, cuts {cuts}\x1b[K");
+        }
+    }
+
     fn clear(&mut self) {
         if self.is_shown {
             self.is_shown = false;

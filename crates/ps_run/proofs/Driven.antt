@@ -11,7 +11,7 @@ use Rattle.clap.specs.Values.{kind_of}
 use Rattle.clap.specs.declared.error.Error.{Error}
 use Rattle.clap.specs.declared.error.kind.ErrorKind.TheVariants as kind
 use Rattle.ps_run.specs.declared.statuses.Status.{Status}
-use Rattle.ps_run.specs.Driving.{Asked, Contents, KeepsProgram, Names, Outputs, IsBegun, IsDriven, IsRecordName, IsWritten}
+use Rattle.ps_run.specs.Driving.{Asked, Contents, KeepsProgram, Names, Outputs, IsBegun, IsDriven, IsRecordName, IsShown, IsWritten}
 use Rattle.ps_run.specs.Telling.{Told}
 use Rattle.ps_run.proofs.ReadParts.{of_known}
 
@@ -44,6 +44,7 @@ driven_more asks names other A B F G told outputs same more fault driven =
       asked = run.asked;
       is_asked = more run.asked run.is_asked;
       is_single = run.is_single;
+      is_whole = run.is_whole;
       cut = run.cut;
       report = run.report;
       run = run.run;
@@ -52,7 +53,7 @@ driven_more asks names other A B F G told outputs same more fault driven =
       written = run.written;
       keeps = run.keeps;
     })))
-    with_more (inr (inr (inr runs))) = inr (inr (inr (record {
+    with_more (inr (inr (inr (inl runs)))) = inr (inr (inr (inl (record {
       asked = runs.asked;
       is_asked = more runs.asked runs.is_asked;
       runs = runs.runs;
@@ -64,7 +65,41 @@ driven_more asks names other A B F G told outputs same more fault driven =
       entries = runs.entries;
       written = runs.written;
       keeps = runs.keeps;
-    })))
+    }))))
+    with_more (inr (inr (inr (inr (inl all))))) = inr (inr (inr (inr (inl (record {
+      asked = all.asked;
+      is_asked = more all.asked all.is_asked;
+      bounds = all.bounds;
+      are_all = all.are_all;
+      program = all.program;
+      is_program = all.is_program;
+      orders = all.orders;
+      are = all.are;
+      written = all.written;
+      keeps = all.keeps;
+    })))))
+    with_more (inr (inr (inr (inr (inr (inl state)))))) = inr (inr (inr (inr (inr (inl (record {
+      asked = state.asked;
+      is_asked = more state.asked state.is_asked;
+      step = state.step;
+      is_at = state.is_at;
+      program = state.program;
+      is_program = state.is_program;
+      given = state.given;
+      is_given = state.is_given;
+      within = state.within;
+      origins = state.origins;
+      written = state.written;
+    }))))))
+    with_more (inr (inr (inr (inr (inr (inr untold)))))) = inr (inr (inr (inr (inr (inr (record {
+      asked = untold.asked;
+      is_asked = more untold.asked untold.is_asked;
+      is_at = untold.is_at;
+      is_memory = untold.is_memory;
+      printed = untold.printed;
+      files = untold.files;
+      tells = untold.tells;
+    }))))))
 
 -- the name of a record, by other words of it
 pub record_named : (recorded other : Option Text) (many more : Option ℕ) (name : Text)
@@ -95,6 +130,16 @@ pub written_from : (cut : Bool) (recorded : Option Text) (places : List ℕ) (st
 written_from cut recorded places stats report told outputs err files errs all written =
     subst (IsWritten cut recorded places stats report told)
     (λ i. record outputs { err_old = errs i; files_old = all i }) written
+
+-- a state that was written, of a text that is the same, where what stood before is told of what
+-- stood earlier, and files stay
+pub shown_as : (text other : List ℕ) (told : Status) (outputs : Outputs) (err : Told)
+    (files : Contents) → text ≡ other → outputs.err_old ≡ err → outputs.files_new ≡ files
+    → IsShown text told outputs
+    → IsShown other told (record outputs { err_old = err; files_new = files })
+shown_as text other told outputs err files same errs all shown =
+    subst (IsShown other told) (λ i. record outputs { err_old = errs i; files_new = all i })
+    (subst (λ (t : List ℕ). IsShown t told outputs) same shown)
 
 among_none : (k : _) (kinds : Kinds) → IsAmong k kinds → kinds ≡ [] → ⊥
 among_none k [] among none = among

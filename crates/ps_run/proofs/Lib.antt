@@ -4,6 +4,7 @@ mod Examples
 pub mod Held
 pub mod Ranges
 pub mod ManyRuns
+pub mod EachOrder
 pub mod ReadParts
 pub mod Streamed
 pub mod Tellings

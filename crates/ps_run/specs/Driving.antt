@@ -1,5 +1,5 @@
 -- What a run from a command line is, its exit status, and what is written.
-use Rattle.std.specs.Prelude.{◌≡◌, ◌<◌, ◌≤◌, ◌+◌, ◌⊎◌, ◌++◌, ◌-◌, ◌^◌, ⊤, min, unwrap_or, ℕ, Bool, true, false, All, List, [], ◌∷◌, slice_index_or, Option, Some, None, IfSome, option_map, option_and_then, length, codes, if◌then◌else◌}
+use Rattle.std.specs.Prelude.{◌≡◌, ◌<◌, ◌≤◌, ◌+◌, ◌⊎◌, ◌++◌, ◌-◌, ◌^◌, ⊤, min, unwrap_or, ℕ, Bool, true, false, All, List, [], ◌∷◌, slice_index_or, Option, Some, None, IfSome, IsSome, map, option_map, option_and_then, length, codes}
 use Rattle.std.specs.Option.{option_or}
 use Rattle.std.specs.Fmt.{decimal}
 use Rattle.std.specs.Io.KnownBytes.{Appends}
@@ -9,246 +9,39 @@ use Rattle.ps_language.specs.Schedules.{count_of, moves}
 use Rattle.ps_language.specs.World as world
 use Rattle.ps_language.specs.Worlds as worlds
 use Rattle.ps_ops_state.specs.Acts as acts
-use Rattle.ps_mem.specs.Bounded.{bounded_space}
 use Rattle.ps_mem.specs.Heap.{Space}
-use Rattle.ps_mem.specs.Plain.{plain_space}
-use Rattle.ps_run_options.specs.declared.options.Options.{Options}
-use Rattle.ps_run_options.specs.CommandLine.{IsNumber, IsFlag, IsOptional, AreNumbers, named_in, size_in}
-use Rattle.ps_run_options.specs.Sources.{file_of, text_of as program_text}
+use Rattle.ps_run_options.specs.declared.options.Exploration.TheVariants.{ByChance, EachOrder}
+use Rattle.ps_run_options.specs.declared.options.OrderBounds.{OrderBounds}
 use Rattle.ps_run_schedules.specs.Texts.{AreEntries, IsBadAt, text_of}
+use Rattle.ps_places.specs.declared.origins.Origin.{Origin}
+use Rattle.ps_states.specs.States.{state_text}
 use Rattle.clap.specs.Words.{Text}
-use Rattle.ps_ctx_start.specs.declared.start.TheConstants.{ANY_OUTPUT}
-use Rattle.ps_vault.specs.declared.reports.Config.{Config}
-use Rattle.ps_vault.specs.declared.reports.Outcome.{Outcome}
 use Rattle.ps_vault.specs.declared.reports.Report.{Report}
-use Rattle.ps_vault.specs.declared.reports.TheConstants.{ANY_ENTRIES}
-use Rattle.ps_vault.specs.declared.reports.Outcome.TheVariants.{Finished, Faulted, AllWaiting, StepsOut, Memory}
 use Rattle.ps_vault.specs.Endings.{AreEndings}
 use Rattle.ps_vault.specs.Order.{InOrder}
-use Rattle.ps_vault.specs.Reports.{Bounds, IsBounded, IsReplayOf, IsRunIn, IsUncollected, IsWithin, UnderPart, WithBudget, are_ordinary}
+use Rattle.ps_vault.specs.Reports.{IsBounded, IsReplayOf, IsRunIn, IsUncollected, UnderPart, WithBudget, are_ordinary}
 use Rattle.ps_vault.specs.Screens.{AppendsPart}
-use Rattle.ps_walks.specs.declared.walks.WalkFault.{WalkFault}
-use Rattle.ps_walks.specs.declared.walks.WalkFault.TheVariants as walk
+use Rattle.ps_run.specs.Orders.{AreOrders, Orders, order_lines, report_of}
+use Rattle.ps_walks.specs.Walks.{world_behind}
 use Rattle.ps_run.specs.Telling.{Tells, Told}
-use Rattle.ps_run.specs.declared.places.Places.{Places}
-use Rattle.ps_run.specs.declared.places.Places.TheVariants.{Unasked, Told as ToldPlaces, Untold}
 use Rattle.ps_run.specs.declared.files.ReadFault.{ReadFault}
 use Rattle.ps_run.specs.declared.files.ReadFault.TheVariants as fault
 use Rattle.ps_run.specs.declared.statuses.Status.{Status}
 use Rattle.ps_run.specs.declared.statuses.Status.TheVariants as status
-
--- the exit status of a run that ended so
-abbrev pub status_of : Outcome → Status
-status_of Finished = status.Finished
-status_of Faulted = status.Faulted
-status_of AllWaiting = status.AllWaiting
-status_of StepsOut = status.StepsOut
-status_of Memory = status.Memory
-
--- the exit status as a number
-abbrev pub number_of : Status → ℕ
-number_of status.Finished = 0
-number_of status.Faulted = 1
-number_of status.Usage = 2
-number_of status.AllWaiting = 3
-number_of status.StepsOut = 4
-number_of status.Memory = 5
-
--- the line that standard error has of it
-abbrev pub line_of : Status → List ℕ
-line_of status.Finished = []
-line_of status.Faulted = []
-line_of status.Usage = []
-line_of status.AllWaiting = codes "dpsrun: all contexts wait\n"
-line_of status.StepsOut = codes "dpsrun: steps used up\n"
-line_of status.Memory = codes "dpsrun: out of memory\n"
-
--- ---- what is written
-
--- a line with a label and a number
-abbrev pub number_line : (label : List ℕ) → ℕ → List ℕ
-number_line label number = label ++ (decimal number ++ codes "\n")
-
--- the line that standard error has of an output that didn't take all
-abbrev pub lost_line : List ℕ
-lost_line = codes "dpsrun: cannot write output\n"
-
--- the line that it has of a record that wasn't written
-abbrev pub unwritten_line : Text → List ℕ
-unwritten_line name = codes "dpsrun: cannot write " ++ (name ++ codes "\n")
-
--- the lines of the counts of a run; steps are told up to 18,446,744,073,709,551,615
-abbrev pub count_lines : Report → List ℕ
-count_lines report =
-    number_line (codes "flips ") report.flips
-    ++ (number_line (codes "taken ") report.taken
-    ++ number_line (codes "steps ") (min (count_of report.schedule.items) (2 ^ 64 - 1)))
-
--- where they are asked for
-abbrev pub counts_of : (stats : Bool) → Report → List ℕ
-counts_of stats report = if stats then count_lines report else []
-
--- the line that standard error has of a run that isn't made again
-abbrev pub untold_line : WalkFault → List ℕ
-untold_line walk.Memory = codes "dpsrun: no places: out of memory\n"
-untold_line walk.TooLarge =
-    codes "dpsrun: no places: the run is too large to be made again\n"
-
--- what is told of the places of its errors
-abbrev pub told_of : Places → List ℕ
-told_of Unasked = []
-told_of (ToldPlaces text) = text.items
-told_of (Untold why) = untold_line why
-
--- what may be told of the places of its errors: nothing, where they are not asked for, or each
--- context finished without a line of an error
-pub record ArePlaces (asked : Bool) (report : Report) (places : List ℕ) : Type 0 where
-  pub unasked : asked ≡ false → places ≡ []
-  pub none : report.outcome ≡ Finished → places ≡ []
-
--- ---- files that are not read
-
--- what is said of such a file; of memory that was wanted for it there is a line of its own
-abbrev pub reason_of : ReadFault → Option (List ℕ)
-reason_of fault.NotFound = Some (codes "does not exist")
-reason_of fault.Folder = Some (codes "is a folder")
-reason_of fault.Nameless = Some (codes "is an empty name")
-reason_of fault.Denied = Some (codes "may not be read")
-reason_of fault.TooLong = Some (codes "is longer than 16777215 bytes")
-reason_of fault.NoRead = Some (codes "can't be opened or read")
-reason_of fault.Memory = None
-
--- the status of a run whose file was not read
-abbrev pub status_for : Option (List ℕ) → Status
-status_for None = status.Memory
-status_for (Some reason) = status.Usage
-
-abbrev pub unread : ReadFault → Status
-unread why = status_for (reason_of why)
-
--- the lines that standard error has of it: why, and that it was not read
-abbrev pub reason_line : (reason name : List ℕ) → List ℕ
-reason_line reason name = codes "dpsrun: '" ++ (name ++ (codes "' " ++ (reason ++ codes "\n")))
-
-abbrev pub lines_for : Option (List ℕ) → (name : Text) → List ℕ
-lines_for None name = line_of status.Memory
-lines_for (Some reason) name =
-    reason_line reason name ++ (codes "dpsrun: cannot read " ++ (name ++ codes "\n"))
-
-abbrev pub unread_lines : ReadFault → (name : Text) → List ℕ
-unread_lines why name = lines_for (reason_of why) name
+pub use Rattle.ps_run.specs.Lines.{status_of, number_of, line_of, number_line, lost_line}
+pub use Rattle.ps_run.specs.Lines.{unwritten_line, count_lines, counts_of, untold_line, told_of}
+pub use Rattle.ps_run.specs.Lines.{ArePlaces, reason_of, status_for, unread, reason_line}
+pub use Rattle.ps_run.specs.Lines.{lines_for, unread_lines, bad_line, ending_lines, past_end_line}
+pub use Rattle.ps_run.specs.Lines.{no_state_line}
+pub use Rattle.ps_run.specs.Asked.{Asked, most_output, most_entries, AreAsked, most_asked}
+pub use Rattle.ps_run.specs.Asked.{space_of, Names, names_in, config_in, asked_of, most_endings}
+pub use Rattle.ps_run.specs.Asked.{records_in, records_of, names_of, AreOutOfRange}
 
 -- ---- a run of a program
 
 -- how many bytes a program's file may have
 abbrev pub most_program_bytes : ℕ
 most_program_bytes = 16777215
-
--- what the words ask for of a run; plain: whether over memory that is never collected, whatever the
--- space; streamed: whether printed bytes may go out while it goes on; places: whether the places of
--- errors are told; explored: under how many
--- schedules, if they are chosen by chance; output, entries: the most bytes that it may print, and
--- the
--- most entries of its schedule, if there is a bound
-pub record Asked : Type 0 where
-  pub space : ℕ
-  pub steps : ℕ
-  pub quantum : ℕ
-  pub plain : Bool
-  pub streamed : Bool
-  pub places : Bool
-  pub stats : Bool
-  pub explored : Option ℕ
-  pub output : Option ℕ
-  pub entries : Option ℕ
-
--- the most bytes that may be printed
-abbrev pub most_output : Option ℕ → ℕ
-most_output asked = unwrap_or asked ANY_OUTPUT
-
--- the most entries of the schedule
-abbrev pub most_entries : Option ℕ → ℕ
-most_entries asked = unwrap_or asked ANY_ENTRIES
-
-abbrev pub AreAsked : List Text → Asked → Type 0
-AreAsked words asked = (asked.space ≡ unwrap_or (size_in (codes "space") words) 65536)
-    × (asked.steps ≡ unwrap_or (size_in (codes "steps") words) 1000000000)
-    × IsNumber (codes "quantum") words asked.quantum × IsFlag (codes "plain") words asked.plain
-    × IsFlag (codes "stream") words asked.streamed × IsFlag (codes "where") words asked.places
-    × IsFlag (codes "stats") words asked.stats
-    × IsOptional (codes "explore") words asked.explored
-    × (asked.output ≡ size_in (codes "output") words)
-    × (asked.entries ≡ size_in (codes "entries") words)
-
--- the bounds of its run
-abbrev pub most_asked : Asked → Bounds
-most_asked asked =
-    record { output = most_output asked.output; entries = most_entries asked.entries }
-
--- the space of its memory
-abbrev pub space_of : Asked → Space
-space_of asked = if asked.plain then plain_space else bounded_space asked.space
-
--- the program's text, and the names of files, as far as they are given: that of the program, that
--- of
--- the record, and that of the schedule to follow
-pub record Names : Type 0 where
-  pub file : Option Text
-  pub text : Option Text
-  pub recorded : Option Text
-  pub replayed : Option Text
-
-abbrev pub names_in : List Text → Names
-names_in words = record {
-  file = named_in (codes "FILE") words;
-  text = named_in (codes "e") words;
-  recorded = named_in (codes "record") words;
-  replayed = named_in (codes "replay") words;
-}
-
--- the numbers of a run and the names of files among what the words ask for
-abbrev pub config_in : Options → Config
-config_in options = record {
-  space = options.space;
-  workers = options.workers;
-  quantum = options.quantum;
-  steps = options.steps;
-  output = most_output options.output;
-  entries = most_entries options.entries;
-}
-
-abbrev pub asked_of : Options → Asked
-asked_of options = record {
-  space = options.space;
-  steps = options.steps;
-  quantum = options.quantum;
-  plain = options.plain;
-  streamed = options.stream;
-  places = options.places;
-  stats = options.stats;
-  explored = options.explore;
-  output = options.output;
-  entries = options.entries;
-}
-
-abbrev pub names_of : Options → Names
-names_of options = record {
-  file = file_of options.source;
-  text = program_text options.source;
-  recorded = option_map (λ name. name.now) options.record_file;
-  replayed = option_map (λ name. name.now) options.replay_file;
-}
-
--- the words' numbers are none of a run: the rules refuse such words
-pub record AreOutOfRange (words : List Text) : Type 0 where
-  pub config : Config
-  pub numbers : AreNumbers words (record {
-    space = config.space;
-    workers = config.workers;
-    quantum = config.quantum;
-    steps = config.steps;
-  })
-  pub outside : ¬ IsWithin config
 
 -- what files hold by their names, as far as it is known
 abbrev pub Contents : Type 0
@@ -411,11 +204,6 @@ abbrev pub agreement : List Report → Status
 agreement (ending ∷ []) = status.Finished
 agreement _ = status.Faulted
 
--- the lines of standard error: how many runs there were, and how many endings
-abbrev pub ending_lines : (runs count : ℕ) → List ℕ
-ending_lines runs count =
-    number_line (codes "runs ") runs ++ number_line (codes "endings ") count
-
 -- the record of an ending isn't made, and no more are; those before it are
 abbrev pub AreUnrecorded : Option Text → List Report → Status → Outputs → Type 0
 AreUnrecorded recorded endings told outputs = (place : ℕ) × (place < length endings)
@@ -423,18 +211,35 @@ AreUnrecorded recorded endings told outputs = (place : ℕ) × (place < length e
     × TellsUnwritten (option_map (λ prefix. numbered prefix (place + 1)) recorded) told
     outputs.err_old outputs.err_new
 
--- as of one run (IsWritten), with a record for each ending
-abbrev pub AreWritten : (recorded : Option Text) → (runs : ℕ) → List Report → Status → Outputs
-    → Type 0
-AreWritten recorded runs endings told outputs =
+-- as of one run (IsWritten), with a record for each ending; also: what is told behind the counts
+abbrev pub AreWritten : (recorded : Option Text) → (runs : ℕ) → List Report → (also : List ℕ)
+    → Status → Outputs → Type 0
+AreWritten recorded runs endings also told outputs =
     IsLost (first_printed endings) told outputs
     ⊎ (Appends outputs.out_old outputs.out_new (first_printed endings)
     × (outputs.flushed ≡ true)
     × (AreUnrecorded recorded endings told outputs
     ⊎ ((told ≡ agreement endings) × AreRecorded outputs.files_new recorded endings (length endings)
-    × Tells outputs.err_old outputs.err_new (ending_lines runs (length endings)))))
+    × Tells outputs.err_old outputs.err_new (ending_lines runs (length endings) ++ also))))
+
+-- ---- a state
+
+-- it took the place of what a run prints: the output took all of it and was flushed, and nothing
+-- was told; or a part of it is lost. No file has changed
+abbrev pub IsShown : (text : List ℕ) → Status → Outputs → Type 0
+IsShown text told outputs = IsLost text told outputs
+    ⊎ ((told ≡ status.Finished) × Appends outputs.out_old outputs.out_new text
+    × (outputs.flushed ≡ true) × (outputs.files_new ≡ outputs.files_old)
+    × (outputs.err_new ≡ outputs.err_old))
 
 -- ---- faults
+
+-- the schedule has fewer steps than those behind which the state is to be told: that is told
+abbrev pub IsPastEnd : Contents → Names → (at : Option ℕ) → (err_old err_new : Told) → Type 0
+IsPastEnd contents names None err_old err_new = ⊥
+IsPastEnd contents names (Some step) err_old err_new = (given : List Entry)
+    × IsGiven contents names.replayed (Some given) × (count_of given < step)
+    × Tells err_old err_new (past_end_line step (count_of given))
 
 -- a program's bytes are more than one may have
 abbrev pub IsTooLong : (known : Option (List ℕ)) → Type 0
@@ -445,10 +250,6 @@ abbrev pub HasNoProgram : Contents → Names → (err_old err_new : Told) → Ty
 HasNoProgram contents names err_old err_new =
     IfSome (known_program contents names) (λ bytes. (most_program_bytes < length bytes)
     × Tells err_old err_new (unread_lines fault.TooLong (program_name names)))
-
--- the line that standard error has of a bad line of a schedule
-abbrev pub bad_line : ℕ → List ℕ
-bad_line line = number_line (codes "dpsrun: bad schedule line ") line
 
 -- no schedule can be read of the file that is named: it has a bad line, which is told
 abbrev pub HasNoSchedule : Contents → Option Text → (err_old err_new : Told) → Type 0
@@ -485,6 +286,7 @@ module _ (asks : world.Status → Around → Scene → acts.Asked) (names : Name
     pub asked : Asked
     pub is_asked : IsAsked asked
     pub is_single : asked.explored ≡ None
+    pub is_whole : asked.at ≡ None
     pub cut : Bool
     pub report : Report
     pub run : IsFileRun asks outputs.files_old names asked cut report
@@ -498,13 +300,27 @@ module _ (asks : world.Status → Around → Scene → acts.Asked) (names : Name
     pub asked : Asked
     pub is_asked : IsAsked asked
     pub runs : ℕ
-    pub are_many : asked.explored ≡ Some runs
+    pub are_many : asked.explored ≡ Some (ByChance runs)
     pub program : List ℕ
     pub is_program : IsProgramIn outputs.files_old names program
     pub endings : List Report
     pub are : AreEndings asks program asked.steps (most_asked asked) runs endings
     pub entries : All (λ ending. AreEntries ending.schedule.items) endings
-    pub written : AreWritten names.recorded runs endings told outputs
+    pub written : AreWritten names.recorded runs endings [] told outputs
+    pub keeps : KeepsProgram outputs.files_old outputs.files_new program
+
+  -- the program's orders with few cuts, each told by how it ends, that were written
+  pub record AreOrdersWritten (told : Status) (outputs : Outputs) : Type 0 where
+    pub asked : Asked
+    pub is_asked : IsAsked asked
+    pub bounds : OrderBounds
+    pub are_all : asked.explored ≡ Some (EachOrder bounds)
+    pub program : List ℕ
+    pub is_program : IsProgramIn outputs.files_old names program
+    pub orders : Orders
+    pub are : AreOrders program asked.steps bounds orders
+    pub written : AreWritten names.recorded orders.runs (map report_of orders.endings)
+        (order_lines bounds orders) told outputs
     pub keeps : KeepsProgram outputs.files_old outputs.files_new program
 
   -- a run that is streamed has begun: the output has a beginning of what the program prints
@@ -519,8 +335,35 @@ module _ (asks : world.Status → Around → Scene → acts.Asked) (names : Name
     pub schedule : List Entry
     pub part : AppendsPart outputs.out_old outputs.out_new (worlds.printed program schedule)
 
+  -- the state behind so many steps of the schedule that is named was written, as of a world of the
+  -- program that was never collected. Origins: where tokens begin that made objects
+  pub record IsStateWritten (told : Status) (outputs : Outputs) : Type 0 where
+    pub asked : Asked
+    pub is_asked : IsAsked asked
+    pub step : ℕ
+    pub is_at : asked.at ≡ Some step
+    pub program : List ℕ
+    pub is_program : IsProgramIn outputs.files_old names program
+    pub given : List Entry
+    pub is_given : IsGiven outputs.files_old names.replayed (Some given)
+    pub within : step ≤ count_of given
+    pub origins : List Origin
+    pub written : IsShown (state_text
+        (record { file = program_name names; program = program; origins = origins })
+        (world_behind program given step) step (min (count_of given) (2 ^ 64 - 1))) told outputs
+
+  -- the run of that schedule can't be made again in memory that is never collected: that is told
+  pub record IsStateUntold (told : Status) (outputs : Outputs) : Type 0 where
+    pub asked : Asked
+    pub is_asked : IsAsked asked
+    pub is_at : IsSome asked.at
+    pub is_memory : told ≡ status.Memory
+    pub printed : outputs.out_new ≡ outputs.out_old
+    pub files : outputs.files_new ≡ outputs.files_old
+    pub tells : Tells outputs.err_old outputs.err_new no_state_line
+
   -- a fault of the words or a file, or want of memory before the end of a run: nothing is written,
-  -- but what was streamed; else a run, or many. IsFault: of the words or a file
+  -- but what was streamed; else a run, or many, or the state of one. IsFault: of the words or a file
   abbrev pub IsDriven : (IsFault : Type 0) → (told : Status) → Outputs → Type 0
   IsDriven IsFault told outputs =
       ((told ≡ status.Usage) × (outputs.out_new ≡ outputs.out_old)
@@ -528,4 +371,6 @@ module _ (asks : world.Status → Around → Scene → acts.Asked) (names : Name
       ⊎ (((told ≡ status.Memory) × ((outputs.out_new ≡ outputs.out_old) ⊎ IsBegun outputs)
       × (outputs.files_new ≡ outputs.files_old)
       × Tells outputs.err_old outputs.err_new (line_of status.Memory))
-      ⊎ (IsRunWritten told outputs ⊎ AreRunsWritten told outputs))
+      ⊎ (IsRunWritten told outputs
+      ⊎ (AreRunsWritten told outputs ⊎ (AreOrdersWritten told outputs
+      ⊎ (IsStateWritten told outputs ⊎ IsStateUntold told outputs)))))

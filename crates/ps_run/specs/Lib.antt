@@ -1,3 +1,6 @@
+pub mod Asked
 pub mod Driving
+pub mod Lines
+pub mod Orders
 pub mod Parts
 pub mod Telling

@@ -1,7 +1,7 @@
 //! What is written at the end of many runs: the bytes that the first printed, a record of each
 //! ending, and how many there were.
 
-ghost use Rattle.std.specs.Prelude.{◌≡◌, ◌≤◌, ◌<◌, ◌^◌, ℕ, Bool, false, true, List, Some, Err, length, option_map, ◌+◌, OnOk, IfErr};
+ghost use Rattle.std.specs.Prelude.{◌≡◌, ◌≤◌, ◌<◌, ◌^◌, ℕ, Bool, false, true, List, Some, Err, length, option_map, ◌+◌, ◌++◌, OnOk, IfErr};
 ghost use Rattle.ps_run.specs.Driving as driving;
 ghost use Rattle.ps_run.specs.Driving.{AreRecorded, AreUnrecorded, AreWritten, IsRecorded, IsRecordName, TellsUnwritten, names_of, numbered};
 ghost use Rattle.ps_run.specs.Telling.{Tells};
@@ -24,10 +24,12 @@ pub(crate) struct ManyRuns<'e> {
     pub(crate) runs: u32,
     /// What they came to, each ending once, in the order in which the runs came to them.
     pub(crate) endings: &'e [Report],
+    /// What is told of them behind how many there were.
+    pub(crate) also: &'e [u8],
 }
 
 /// Writes what the first of these endings printed, then the record of each where that is asked for,
-/// then how many runs and endings there were.
+/// then how many runs and endings there were, and what else is told of them.
 pub(crate) fn finish_all<F: FileSet, W: Flushing, X: Telling>(
     alloc: Global,
     many: ManyRuns<'_>,
@@ -45,7 +47,7 @@ pub(crate) fn finish_all<F: FileSet, W: Flushing, X: Telling>(
         → F.is_unwritten outside.new.files ≡ true
         → result ≡ Status.Usage }
     ensures written { AreWritten (names_of options.now).recorded many.entry.runs
-        many.entry.endings.now result (record {
+        many.entry.endings.now many.entry.also.now result (record {
           out_old = W.contents out.old;
           out_new = W.contents out.new;
           err_old = X.told outside.old.err;
@@ -61,7 +63,7 @@ pub(crate) fn finish_all<F: FileSet, W: Flushing, X: Telling>(
     if let Err(status) = record_all(alloc, many.endings, options, outside) {
         return status;
     }
-    tell_endings(many.runs, many.endings.len(), &mut outside.err);
+    tell_runs(many, &mut outside.err);
     if many.endings.len() == 1 {
         Status::Finished
     } else {
@@ -136,6 +138,16 @@ fn record_ending<F: FileSet, X: Telling>(
         return Err(end(&mut outside.err, Status::Memory));
     };
     write_schedule(alloc, name.as_str(), schedule, outside)
+}
+
+/// Tells how many runs and endings there were, and what else is told of them.
+fn tell_runs<X: Telling>(many: ManyRuns<'_>, err: &mut X)
+    ensures { Tells (X.told err.old) (X.told err.new)
+        (driving.ending_lines many.entry.runs (length many.entry.endings.now)
+        ++ many.entry.also.now) }
+{
+    tell_endings(many.runs, many.endings.len(), err);
+    err.tell(many.also);
 }
 
 /// Tells how many runs and endings there were.

@@ -1,14 +1,15 @@
 //! Many runs of the program's file, under schedules that are chosen by chance.
 
-ghost use Rattle.std.specs.Prelude.{◌≡◌, ◌≤◌, ◌⊎◌, ℕ, List, true, false, None, IfSome, IsSome};
+ghost use Rattle.std.specs.Prelude.{◌≡◌, ◌⊎◌, ℕ, List, true, false, None, Some, IfSome};
+ghost use Rattle.ps_run_options.specs.CommandLine.{IsExploration};
 ghost use Rattle.ps_vault.specs.Reports.{IsWithin};
 ghost use Rattle.ps_run.specs.Driving as driving;
-ghost use Rattle.ps_run.specs.Driving.{IsDriven, IsFileFault, IsRecordName, IsUnread, asked_of, config_in, names_of};
+ghost use Rattle.ps_run.specs.Driving.{IsDriven, IsFileFault, IsRecordName, IsUnread, asked_of, config_in, names_of, records_of};
 
 use crate::chances::Chances;
 use crate::endings::{ManyRuns, finish_all};
 use crate::files::FileSet;
-use crate::keeping::keep_program;
+use crate::keeping::{Records, keep_program};
 use crate::making::config_of;
 use crate::outputs::{Flushing, Telling};
 use crate::outside::Outside;
@@ -17,7 +18,7 @@ use crate::statuses::{Status, end};
 use crate::systems::System;
 use ps_ctx::deeds::Deeds;
 use ps_ctx::makers::Makers;
-use ps_run_options::Options;
+use ps_run_options::{Exploration, Options};
 use ps_step_interpreter::interprets::Interpret;
 use ps_vault::{Budget, Setup, Task};
 
@@ -37,10 +38,10 @@ pub(crate) fn explore<
     out: &mut W,
     outside: &mut Outside<F, X>,
 ) -> Status
-    requires many { IsSome options.now.explore }
-    requires range { IfSome options.now.explore (λ runs. (1 ≤ runs) × (runs ≤ 65535)) }
+    requires many { (runs : ℕ) × (options.now.explore ≡ Some (Exploration.ByChance runs)) }
+    requires range { IfSome options.now.explore IsExploration }
     ensures files { (name : List ℕ) → ¬ IsRecordName (names_of options.now).recorded
-        options.now.explore name
+        (records_of options.now) name
         → F.contents outside.new.files name ≡ F.contents outside.old.files name }
     ensures unread { F.last_fault outside.old.files ≡ None
         → IfSome (F.last_fault outside.new.files)
@@ -51,7 +52,7 @@ pub(crate) fn explore<
         → result ≡ Status.Usage }
     ensures run { IsDriven S.asks (names_of options.now)
         (λ asked. asked ≡ asked_of options.now)
-        (IsFileFault (F.contents outside.old.files) (names_of options.now) options.now.explore
+        (IsFileFault (F.contents outside.old.files) (names_of options.now) (records_of options.now)
         (X.told outside.old.err) (X.told outside.new.err) ⊎ ¬ IsWithin (config_in options.now))
         result (record {
           out_old = W.contents out.old;
@@ -64,7 +65,7 @@ pub(crate) fn explore<
         }) }
 {
     let alloc = system.alloc;
-    let Some(runs) = options.explore else {
+    let Some(Exploration::ByChance(runs)) = options.explore else {
         unreachable!()
     };
     let program = match read_program(alloc, options, outside) {
@@ -72,7 +73,11 @@ pub(crate) fn explore<
         Err(status) => return status,
     };
     let bytes = program.as_slice();
-    if let Err(status) = keep_program(alloc, options, bytes, &outside.files, &mut outside.err) {
+    let records = Records {
+        name: options.record_file,
+        many: Some(runs),
+    };
+    if let Err(status) = keep_program(alloc, records, bytes, &outside.files, &mut outside.err) {
         return status;
     }
     let config = config_of(options);
@@ -96,6 +101,7 @@ pub(crate) fn explore<
             let many = ManyRuns {
                 runs,
                 endings: endings.as_slice(),
+                also: b"",
             };
             finish_all(alloc, many, options, out, outside)
         }

@@ -1,37 +1,46 @@
 //! That no record is written over a file that holds the program, whatever its name.
 
-ghost use Rattle.std.specs.Prelude.{◌≡◌, ◌≢◌, ◌≤◌, ◌⊎◌, ℕ, List, Some, false, true, OnOk, IfErr, IfOk, IfSome};
+ghost use Rattle.std.specs.Prelude.{◌≡◌, ◌≢◌, ◌≤◌, ◌⊎◌, ℕ, List, Some, false, true, OnOk, IfErr, IfOk, IfSome, option_map};
 ghost use Rattle.ps_run.specs.Driving as driving;
-ghost use Rattle.ps_run.specs.Driving.{IsRecordName, names_of, numbered};
+ghost use Rattle.ps_run.specs.Driving.{IsRecordName, numbered};
 ghost use Rattle.ps_run.specs.Telling.{Tells};
 
 use crate::files::FileSet;
 use crate::outputs::Telling;
 use crate::statuses::{Status, end};
 use crate::telling::refuse;
-use ps_run_options::{Options, overwritten};
+use ps_run_options::overwritten;
 use std::alloc::{AllocError, Global};
+
+/// The names of records.
+#[derive(Clone, Copy)]
+pub(crate) struct Records<'a> {
+    /// The name that is given for them, if one is.
+    pub(crate) name: Option<&'a str>,
+    /// How many endings there may be, where it isn't the record of a single run.
+    pub(crate) many: Option<u32>,
+}
 
 /// Fails where a record that is asked for would be written over a file that holds the program, or
 /// where memory is wanted for its name. That is told, and the status is the error.
 pub(crate) fn keep_program<F: FileSet, X: Telling>(
     alloc: Global,
-    options: &Options<'_>,
+    records: Records<'_>,
     program: &[u8],
     files: &F,
     err: &mut X,
 ) -> Result<(), Status>
     ensures told { OnOk result (err.new ≡ err.old) }
     ensures kept { OnOk result ((name : List ℕ)
-        → IsRecordName (names_of options.now).recorded options.now.explore name
+        → IsRecordName (option_map (λ given. given.now) records.entry.name) records.entry.many name
         → IfSome (F.contents files.now name) (λ known. known ≢ program.now)) }
     ensures over { IfErr result (λ told. ((told ≡ Status.Memory)
         × Tells (X.told err.old) (X.told err.new) (driving.line_of Status.Memory))
         ⊎ ((told ≡ Status.Usage) × (name : List ℕ)
-        × IsRecordName (names_of options.now).recorded options.now.explore name
+        × IsRecordName (option_map (λ given. given.now) records.entry.name) records.entry.many name
         × IfSome (F.contents files.now name) (λ known. known ≡ program.now))) }
 {
-    match writes_over(alloc, options, program, files) {
+    match writes_over(alloc, records, program, files) {
         Ok(false) => Ok(()),
         Ok(true) => Err(tell_over(alloc, err)),
         Err(_) => Err(end(err, Status::Memory)),
@@ -55,18 +64,18 @@ fn tell_over<X: Telling>(alloc: Global, err: &mut X) -> Status
 /// for want of memory.
 fn writes_over<F: FileSet>(
     alloc: Global,
-    options: &Options<'_>,
+    records: Records<'_>,
     program: &[u8],
     files: &F,
 ) -> Result<bool, AllocError>
     ensures kept { IfOk result (λ is. is ≡ false → (name : List ℕ)
-        → IsRecordName (names_of options.now).recorded options.now.explore name
+        → IsRecordName (option_map (λ given. given.now) records.entry.name) records.entry.many name
         → IfSome (F.contents files.now name) (λ known. known ≢ program.now)) }
     ensures over { IfOk result (λ is. is ≡ true → (name : List ℕ)
-        × IsRecordName (names_of options.now).recorded options.now.explore name
+        × IsRecordName (option_map (λ given. given.now) records.entry.name) records.entry.many name
         × IfSome (F.contents files.now name) (λ known. known ≡ program.now)) }
 {
-    match (options.record_file, options.explore) {
+    match (records.name, records.many) {
         (None, _) => Ok(false),
         (Some(name), None) => Ok(files.holds(name, program)),
         (Some(prefix), Some(runs)) => numbered_over(alloc, prefix, runs, program, files),

@@ -1,7 +1,8 @@
 //! What is told of the places of a run's errors.
 
 ghost use Rattle.std.specs.Prelude.{◌≡◌, IfOk, IfSome, is_some};
-ghost use Rattle.ps_run.specs.Driving.{ArePlaces, told_of};
+ghost use Rattle.ps_run.specs.Driving as driving;
+ghost use Rattle.ps_run.specs.Driving.{ArePlaces, names_of, told_of};
 
 use ps_ctx::deeds::Deeds;
 use ps_ctx::makers::Makers;
@@ -72,6 +73,16 @@ pub(crate) fn again_of<'a, S: Clone + Drop, D: Clone + Drop>(
     }))
 }
 
+/// What the program is called where things in it are told.
+pub(crate) fn program_name<'a>(options: &Options<'a>) -> &'a [u8]
+    ensures { result.now ≡ driving.program_name (names_of options.now) }
+{
+    match options.source {
+        ProgramSource::File(name) => name.as_bytes(),
+        ProgramSource::Text(_) => b"-e",
+    }
+}
+
 /// What is told of the places of the errors of a run.
 pub(crate) fn places_in<S: Interpret + Drop, D: Deeds + Drop>(
     alloc: Global,
@@ -103,10 +114,7 @@ pub(crate) fn places_in<S: Interpret + Drop, D: Deeds + Drop>(
         makers,
         program,
         setup,
-        file: match options.source {
-            ProgramSource::File(name) => name.as_bytes(),
-            ProgramSource::Text(_) => b"-e",
-        },
+        file: program_name(options),
     };
     match places_of(alloc, run, report.schedule.entries()) {
         Ok(text) => Places::Told(text),

@@ -6,6 +6,10 @@ pub trait Progress {
     /// Shows how many of the runs were made, and how many of these had an ending of their own.
     fn show(&mut self, made: u32, runs: u32, endings: usize);
 
+    /// Shows how many runs were made of a search of all orders, how many endings they had, and how
+    /// many cuts the last one's order has.
+    fn show_orders(&mut self, runs: u64, endings: usize, cuts: u32);
+
     /// Takes away what it shows.
     fn clear(&mut self);
 }
@@ -16,6 +20,8 @@ pub struct NoProgress;
 
 impl Progress for NoProgress {
     fn show(&mut self, _made: u32, _runs: u32, _endings: usize) {}
+
+    fn show_orders(&mut self, _runs: u64, _endings: usize, _cuts: u32) {}
 
     fn clear(&mut self) {}
 }

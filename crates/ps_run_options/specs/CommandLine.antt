@@ -1,5 +1,5 @@
 -- The command line of the program, as rules of clap.
-use Rattle.std.specs.Prelude.{◌≡◌, ◌==◌, ◌<◌, ◌^◌, ℕ, Bool, ◌&&◌, ◌||◌, List, [], ◌∷◌, Option, Some, None, is_some, true, false, length, drop, nat_eq, codes, unwrap_or, option_and_then, if◌then◌else◌}
+use Rattle.std.specs.Prelude.{◌≡◌, ◌==◌, ◌<◌, ◌≤◌, ◌^◌, ℕ, Bool, ◌&&◌, ◌||◌, List, [], ◌∷◌, Option, Some, None, is_some, is_none, true, false, length, drop, nat_eq, codes, unwrap_or, option_map, option_and_then, if◌then◌else◌}
 use Rattle.std.specs.Char.{is_ascii_digit}
 use Rattle.std.specs.List.{list_all, starts_with}
 use Rattle.std.specs.Str.{bytes_eq}
@@ -7,6 +7,8 @@ use Rattle.std.specs.Str.Parse.{IsNumeral, digits_value, without_leading_plus}
 use Rattle.clap.specs.Kinds.{Kinds, or_else}
 use Rattle.clap.specs.Words.{App, Rule, Text, new_app, new_rule, with_rule, matches_of, first_of, one_of, fault_of}
 use Rattle.ps_run_options.specs.Sizes.{is_within, size_of}
+use Rattle.ps_run_options.specs.declared.options.Exploration.{Exploration}
+use Rattle.ps_run_options.specs.declared.options.Exploration.TheVariants.{ByChance, EachOrder}
 use Rattle.clap.specs.declared.builder.action.ArgAction.TheVariants.{SetTrue}
 use Rattle.clap.specs.declared.error.kind.ErrorKind.TheVariants.{ArgumentConflict, MissingRequiredArgument, ValueValidation}
 use Rattle.clap.specs.declared.builder.value_parser.ValueParser.TheVariants.{Unsigned}
@@ -55,11 +57,18 @@ with_flags app = with_rule
     (with_rule (with_rule (with_rule app (flag_rule (codes "plain"))) (flag_rule (codes "stats")))
     (flag_rule (codes "stream"))) (flag_rule (codes "where"))
 
--- the schedules: the files that have them, and how many are chosen by chance
+-- which runs are explored, and the bounds of all orders
+abbrev pub with_explored : App → App
+with_explored app = with_rule
+    (with_rule (with_rule app (valued_rule (codes "explore"))) (valued_rule (codes "cuts")))
+    (valued_rule (codes "runs"))
+
+-- the schedules: the files that have them, behind how many steps of one the state is told, and which
+-- are explored
 abbrev pub with_schedules : App → App
-with_schedules app = with_rule
+with_schedules app = with_explored (with_rule
     (with_rule (with_rule app (valued_rule (codes "record"))) (valued_rule (codes "replay")))
-    (within (valued_rule (codes "explore")) 1 65535)
+    (valued_rule (codes "at")))
 
 abbrev pub nameless : App → App
 nameless app = record app { top = record app.top { no_binary_name = true } }
@@ -82,18 +91,38 @@ abbrev pub is_set : Option Text → Bool
 is_set None = false
 is_set (Some text) = bytes_eq text (codes "true")
 
--- what is given beside what it can't be used with: a schedule beside anything else that says how
--- the run is made or records it, or a stream or places beside many runs
-abbrev pub excludes : (replay plain recorded explored entries streamed places : Option Text) → Bool
-excludes replay plain recorded explored entries streamed places =
-    is_some replay && (is_set plain || is_some recorded || is_some explored || is_some entries)
-    || is_set streamed && is_some explored || is_set places && is_some explored
+-- what says how a run is made, or records it
+abbrev pub makes_otherwise : (given : Text → Option Text) → Bool
+makes_otherwise given = is_set (given (codes "plain")) || is_some (given (codes "record"))
+    || is_some (given (codes "explore")) || is_some (given (codes "entries"))
+
+-- what is told of a whole run, or bounds it
+abbrev pub tells_whole : (given : Text → Option Text) → Bool
+tells_whole given = is_set (given (codes "stream")) || is_set (given (codes "where"))
+    || is_set (given (codes "stats")) || is_some (given (codes "output"))
+
+-- what is given beside what it can't be used with, by the first text of each option: a schedule
+-- beside anything else that says how the run is made or records it; a stream or places beside many
+-- runs; a state without a schedule, or beside what is told of a whole run
+abbrev pub excludes : (given : Text → Option Text) → Bool
+excludes given = is_some (given (codes "replay")) && makes_otherwise given
+    || is_set (given (codes "stream")) && is_some (given (codes "explore"))
+    || is_set (given (codes "where")) && is_some (given (codes "explore"))
+    || is_some (given (codes "at")) && (is_none (given (codes "replay")) || tells_whole given)
+
+-- all orders are asked for
+abbrev pub is_all : Option Text → Bool
+is_all None = false
+is_all (Some text) = bytes_eq text (codes "all")
+
+-- all orders want a bound on their cuts, and else there is none on cuts or runs
+abbrev pub misses : (given : Text → Option Text) → Bool
+misses given = if is_all (given (codes "explore")) then is_none (given (codes "cuts"))
+    else (is_some (given (codes "cuts")) || is_some (given (codes "runs")))
 
 abbrev pub is_excluded : List Text → Bool
-is_excluded words = excludes (named_in (codes "replay") words) (named_in (codes "plain") words)
-    (named_in (codes "record") words) (named_in (codes "explore") words)
-    (named_in (codes "entries") words) (named_in (codes "stream") words)
-    (named_in (codes "where") words)
+is_excluded words =
+    excludes (λ name. named_in name words) || misses (λ name. named_in name words)
 
 -- a number in decimal, of any size
 abbrev pub is_number : Text → Bool
@@ -130,13 +159,23 @@ abbrev pub is_sized : (least most : ℕ) → Option Text → Bool
 is_sized least most None = true
 is_sized least most (Some text) = is_within least most (size_of text)
 
-abbrev pub are_sized : (space steps output entries : Option Text) → Bool
-are_sized space steps output entries = is_sized 4096 1048576 space && is_sized 1 4294967295 steps
-    && is_sized 0 4294967295 output && is_sized 1 4294967295 entries
+-- those of such words are, by the first text of each option
+abbrev pub are_sized : (given : Text → Option Text) → Bool
+are_sized given = is_sized 4096 1048576 (given (codes "space"))
+    && is_sized 1 4294967295 (given (codes "steps"))
+    && is_sized 0 4294967295 (given (codes "output"))
+    && is_sized 1 4294967295 (given (codes "entries"))
+    && is_sized 0 4294967295 (given (codes "at"))
+
+-- so many schedules, or all orders; the bounds of these
+abbrev pub are_explored : (given : Text → Option Text) → Bool
+are_explored given = is_sized 0 255 (given (codes "cuts"))
+    && is_sized 1 4294967295 (given (codes "runs"))
+    && (is_all (given (codes "explore")) || is_sized 1 65535 (given (codes "explore")))
 
 abbrev pub are_sizes : List Text → Bool
-are_sizes words = are_sized (named_in (codes "space") words) (named_in (codes "steps") words)
-    (named_in (codes "output") words) (named_in (codes "entries") words)
+are_sizes words =
+    are_sized (λ name. named_in name words) && are_explored (λ name. named_in name words)
 
 -- the faults beside those of the rules
 abbrev pub own_faults : (source : Kinds) → (sized conflicts : Bool) → Kinds
@@ -181,11 +220,23 @@ pub record AreNumbers (words : List Text) (numbers : Numbers) : Type 0 where
   pub quantum : IsNumber (codes "quantum") words numbers.quantum
   pub steps : numbers.steps ≡ unwrap_or (size_in (codes "steps") words) 1000000000
 
--- the number of an option that may be left out, such as how many schedules are chosen by chance
-abbrev pub IsOptional : (name : Text) → List Text → Option ℕ → Type 0
-IsOptional name words None = named_in name words ≡ None
-IsOptional name words (Some number) =
-    (is_some (named_in name words) ≡ true) × IsNumber name words number
+-- which runs are made, where it isn't a single one; the search of all orders makes at most a million
+abbrev pub exploration_of : (given : Text → Option Text) → Option Exploration
+exploration_of given = if is_all (given (codes "explore"))
+    then option_map (λ most. EachOrder (record {
+      cuts = most;
+      runs = unwrap_or (option_and_then size_of (given (codes "runs"))) 1000000;
+    })) (option_and_then size_of (given (codes "cuts")))
+    else option_map ByChance (option_and_then size_of (given (codes "explore")))
+
+-- by such words
+abbrev pub exploration_in : List Text → Option Exploration
+exploration_in words = exploration_of (λ name. named_in name words)
+
+-- the numbers of it are in their ranges
+abbrev pub IsExploration : Exploration → Type 0
+IsExploration (ByChance runs) = (1 ≤ runs) × (runs ≤ 65535)
+IsExploration (EachOrder bounds) = (bounds.cuts ≤ 255) × (1 ≤ bounds.runs)
 
 -- whether a flag stands in such words, by its text
 pub record IsFlag (name : Text) (words : List Text) (truth : Bool) : Type 0 where

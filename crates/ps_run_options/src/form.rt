@@ -13,8 +13,9 @@ use std::alloc::{AllocError, Global};
 const USAGE: &str = "dpsrun [OPTIONS] <FILE>\n       dpsrun [OPTIONS] -e <TEXT>";
 
 /// What the help says behind all options.
-const UNITS: &str = "The N of --space, --steps, --output and --entries may end in k, m or g: \
-    1,024, its square or its cube.";
+const UNITS: &str =
+    "The N of --space, --steps, --output, --entries, --explore, --runs and --at may \
+    end in k, m or g: 1,024, its square or its cube.";
 
 /// The command line's form. Numbers out of their ranges are refused; an option may be given once.
 pub(crate) fn command<'a>(alloc: Global) -> Result<Command<'a>, AllocError>
@@ -100,7 +101,8 @@ fn with_flags<'a>(alloc: Global, command: Command<'a>) -> Result<Command<'a>, Al
         ))
 }
 
-/// The schedules: the files that have them, and how many are chosen by chance.
+/// The schedules: the files that have them, behind how many steps of one the state is told, and which
+/// are explored.
 fn with_schedules<'a>(alloc: Global, command: Command<'a>) -> Result<Command<'a>, AllocError>
     ensures { IfOk result (λ made. app_of made ≡ spec.with_schedules (app_of command.entry)) }
 {
@@ -118,16 +120,40 @@ fn with_schedules<'a>(alloc: Global, command: Command<'a>) -> Result<Command<'a>
         "make the steps of the schedule in FILE; not with --plain, --record, --explore or \
             --entries",
     );
+    let at = valued(
+        alloc,
+        "at",
+        "N",
+        "write the state behind N steps of that schedule in place of what is printed; only with \
+            --replay",
+    );
+    with_explored(alloc, command.arg(record)?.arg(replay)?.arg(at)?)
+}
+
+/// Which runs are explored, and the bounds of all orders.
+fn with_explored<'a>(alloc: Global, command: Command<'a>) -> Result<Command<'a>, AllocError>
+    ensures { IfOk result (λ made. app_of made ≡ spec.with_explored (app_of command.entry)) }
+{
     let explore = valued(
         alloc,
         "explore",
         "N",
-        "run the program under N schedules chosen by chance, and tell how many endings there were",
+        "run the program under N schedules chosen by chance, or, where N is all, in each order with \
+            at most --cuts cuts; tell how many endings there were",
     );
-    command
-        .arg(record)?
-        .arg(replay)?
-        .arg(within(explore, 1, 65535))
+    let cuts = valued(
+        alloc,
+        "cuts",
+        "N",
+        "most cuts of an order of --explore all: steps of another context than whoever is due",
+    );
+    let runs = valued(
+        alloc,
+        "runs",
+        "N",
+        "most runs of --explore all; without it 1,000,000",
+    );
+    command.arg(explore)?.arg(cuts)?.arg(runs)
 }
 
 /// The program: its text, or its file.

@@ -13,4 +13,6 @@ mod form;
 mod options;
 mod sizes;
 
-pub use options::{Options, ProgramSource, VERSION, no_text, overwritten, parse};
+pub use options::{
+    Exploration, Options, OrderBounds, ProgramSource, VERSION, no_text, overwritten, parse,
+};

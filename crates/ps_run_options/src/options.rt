@@ -1,6 +1,6 @@
 //! The command line.
 
-ghost use Rattle.std.specs.Prelude.{◌≡◌, ◌≤◌, ◌∷◌, [], Some, true, false, codes, is_ok, is_some, map, IfErr, IfOk, IfSome, OnOk, unwrap_or};
+ghost use Rattle.std.specs.Prelude.{◌≡◌, ◌≤◌, ◌∷◌, ◌&&◌, ◌||◌, [], Some, true, false, codes, is_ok, is_some, map, IfErr, IfOk, IfSome, OnOk, unwrap_or};
 ghost use Rattle.std.specs.Option.{option_map, option_and_then};
 ghost use Rattle.clap.specs.Values.{kind_of};
 ghost use Rattle.clap.specs.Words.{app_of, rule_of, with_rule, first_value, found_of, FailsBy};
@@ -31,8 +31,24 @@ const REPLAY_EXCLUDED: &str = "the argument '--replay <FILE>' cannot be used wit
 /// What is told of places that are asked for beside many runs.
 const WHERE_EXCLUDED: &str = "the argument '--where' cannot be used with '--explore <N>'";
 
+/// What is told of a state that is asked for without a schedule.
+const AT_ALONE: &str = "the argument '--at <N>' cannot be used without '--replay <FILE>'";
+
+/// What is told of a state that is asked for beside what is told of a whole run.
+const AT_EXCLUDED: &str = "the argument '--at <N>' cannot be used with '--stream', '--where', \
+    '--stats' or '--output <N>'";
+
 /// What is told of a stream that is asked for beside many runs.
 const STREAM_EXCLUDED: &str = "the argument '--stream' cannot be used with '--explore <N>'";
+
+/// What is told of all orders without a bound on their cuts.
+const CUTS_MISSED: &str = "the argument '--explore all' can only be used with '--cuts <N>'";
+
+/// What is told of a bound on cuts without all orders.
+const CUTS_ALONE: &str = "the argument '--cuts <N>' can only be used with '--explore all'";
+
+/// What is told of a bound on runs without all orders.
+const RUNS_ALONE: &str = "the argument '--runs <N>' can only be used with '--explore all'";
 
 /// What is told of a record that would take the place of the program.
 const OVERWRITTEN: &str = "the argument '--record <FILE>' would write over the program";
@@ -47,6 +63,24 @@ pub enum ProgramSource<'a> {
     File(&'a str),
     /// It is this text.
     Text(&'a str),
+}
+
+/// How far all orders of a program's steps are explored.
+#[derive(Clone, Copy, Debug, PartialEq, Eq)]
+pub struct OrderBounds {
+    /// The most cuts of an order, from 0 to 255.
+    pub cuts: u32,
+    /// The most runs that are made, at least 1.
+    pub runs: u32,
+}
+
+/// Which runs of a program are made, where it isn't a single one.
+#[derive(Clone, Copy, Debug, PartialEq, Eq)]
+pub enum Exploration {
+    /// So many, under schedules chosen by chance: from 1 to 65,535.
+    ByChance(u32),
+    /// One in each order of its steps, within these bounds.
+    EachOrder(OrderBounds),
 }
 
 /// What the command line asks for.
@@ -72,14 +106,17 @@ pub struct Options<'a> {
     pub stream: bool,
     /// Whether the place of each error whose line is printed is told. Then it is a single run.
     pub places: bool,
-    /// How many schedules the program is run under, if they are chosen by chance: from 1 to 65,535.
-    pub explore: Option<u32>,
-    /// The name of the file that the schedule of the run is written to, if it is. Where schedules
-    /// are chosen by chance, those of the endings are written, to files of this name with numbers.
+    /// Which runs of the program are made, where it isn't a single one.
+    pub explore: Option<Exploration>,
+    /// The name of the file that the schedule of the run is written to, if it is. Where many runs
+    /// are made, those of the endings are written, to files of this name with numbers.
     pub record_file: Option<&'a str>,
     /// The name of the file whose schedule is followed, if one is. Nothing is recorded then, and
-    /// nothing is chosen by chance.
+    /// nothing is explored.
     pub replay_file: Option<&'a str>,
+    /// Behind how many steps of that schedule the state of the run is told, if it is. Then nothing
+    /// else is.
+    pub at: Option<u32>,
     /// Where the program is.
     pub source: ProgramSource<'a>,
 }
@@ -106,6 +143,8 @@ struct Sizes {
     steps: u32,
     output: Option<u32>,
     entries: Option<u32>,
+    at: Option<u32>,
+    explore: Option<Exploration>,
 }
 
 /// Whether a flag stands in the words of the matches.
@@ -118,23 +157,62 @@ fn is_set(matches: &ArgMatches<'_>, name: &str) -> bool
     }
 }
 
+/// Whether the words of the matches say how a run is made, or record it.
+fn makes_otherwise(matches: &ArgMatches<'_>) -> bool
+    ensures { result ≡ spec.makes_otherwise (first_value (found_of matches.now)) }
+{
+    is_set(matches, "plain")
+        || matches.get_str("record").is_some()
+        || matches.get_str("explore").is_some()
+        || matches.get_str("entries").is_some()
+}
+
+/// Whether the words of the matches ask for what is told of a whole run, or bound it.
+fn tells_whole(matches: &ArgMatches<'_>) -> bool
+    ensures { result ≡ spec.tells_whole (first_value (found_of matches.now)) }
+{
+    is_set(matches, "stream")
+        || is_set(matches, "where")
+        || is_set(matches, "stats")
+        || matches.get_str("output").is_some()
+}
+
+/// Whether all orders are asked for in the words of the matches.
+fn explores_all(matches: &ArgMatches<'_>) -> bool
+    ensures { result ≡ spec.is_all (first_value (found_of matches.now) (codes "explore")) }
+{
+    match matches.get_str("explore") {
+        Some(text) => text == "all",
+        None => false,
+    }
+}
+
+/// What is told where all orders have no bound on their cuts in the words of the matches, or a bound
+/// stands there without them.
+fn missed(matches: &ArgMatches<'_>) -> Option<&'static str>
+    ensures { is_some result ≡ spec.misses (first_value (found_of matches.now)) }
+{
+    let bounds_cuts = matches.get_str("cuts").is_some();
+    if explores_all(matches) {
+        return if bounds_cuts { None } else { Some(CUTS_MISSED) };
+    }
+    if bounds_cuts {
+        return Some(CUTS_ALONE);
+    }
+    if matches.get_str("runs").is_some() {
+        return Some(RUNS_ALONE);
+    }
+    None
+}
+
 /// What is told where something is given in the words of the matches beside what it can't be used
 /// with.
 fn excluded(matches: &ArgMatches<'_>) -> Option<&'static str>
-    ensures { is_some result ≡ spec.excludes (first_value (found_of matches.now) (codes "replay"))
-        (first_value (found_of matches.now) (codes "plain"))
-        (first_value (found_of matches.now) (codes "record"))
-        (first_value (found_of matches.now) (codes "explore"))
-        (first_value (found_of matches.now) (codes "entries"))
-        (first_value (found_of matches.now) (codes "stream"))
-        (first_value (found_of matches.now) (codes "where")) }
+    ensures { is_some result ≡ spec.excludes (first_value (found_of matches.now)) }
 {
     let explores = matches.get_str("explore").is_some();
-    let makes_otherwise = is_set(matches, "plain")
-        || matches.get_str("record").is_some()
-        || explores
-        || matches.get_str("entries").is_some();
-    if matches.get_str("replay").is_some() && makes_otherwise {
+    let replays = matches.get_str("replay").is_some();
+    if replays && makes_otherwise(matches) {
         return Some(REPLAY_EXCLUDED);
     }
     if is_set(matches, "stream") && explores {
@@ -143,7 +221,28 @@ fn excluded(matches: &ArgMatches<'_>) -> Option<&'static str>
     if is_set(matches, "where") && explores {
         return Some(WHERE_EXCLUDED);
     }
+    if matches.get_str("at").is_none() {
+        return None;
+    }
+    if !replays {
+        return Some(AT_ALONE);
+    }
+    if tells_whole(matches) {
+        return Some(AT_EXCLUDED);
+    }
     None
+}
+
+/// What is told where something in the words of the matches can't be used with what stands there, or
+/// without what doesn't.
+fn misused(matches: &ArgMatches<'_>) -> Option<&'static str>
+    ensures { is_some result ≡ (spec.excludes (first_value (found_of matches.now))
+        || spec.misses (first_value (found_of matches.now))) }
+{
+    match excluded(matches) {
+        Some(text) => Some(text),
+        None => missed(matches),
+    }
 }
 
 /// Where the program is, by the words of the matches. Fails where they name none, or two.
@@ -183,6 +282,7 @@ fn sized<'a>(
 ) -> Result<Option<u32>, BadSize<'a>>
     ensures size { IfOk result (λ size. size
         ≡ option_and_then size_of (first_value (found_of matches.now) name.now)) }
+    ensures within { IfOk result (λ size. IfSome size (λ one. (least ≤ one) × (one ≤ most))) }
     ensures is { is_ok result
         ≡ spec.is_sized least most (first_value (found_of matches.now) name.now) }
 {
@@ -192,6 +292,39 @@ fn sized<'a>(
     match size_within(text, least, most) {
         Ok(size) => Ok(Some(size)),
         Err(fault) => Err(BadSize { name, text, fault }),
+    }
+}
+
+/// All orders with at most so many cuts, if those are bounded.
+fn each_order(cuts: Option<u32>, runs: Option<u32>) -> Option<Exploration>
+    ensures { result ≡ option_map (λ most. Exploration.EachOrder (record {
+      cuts = most;
+      runs = unwrap_or runs 1000000;
+    })) cuts }
+{
+    let cuts = cuts?;
+    Some(Exploration::EachOrder(OrderBounds {
+        cuts,
+        runs: runs.unwrap_or(1_000_000),
+    }))
+}
+
+/// Which runs are asked for in the words of the matches, where it isn't a single one. Fails by the
+/// first option whose text is no size in its range, and where no number of runs nor `all` is given.
+fn exploration_of<'a>(matches: &ArgMatches<'a>) -> Result<Option<Exploration>, BadSize<'a>>
+    ensures exploration { IfOk result
+        (λ found. found ≡ spec.exploration_of (first_value (found_of matches.now))) }
+    ensures range { IfOk result (λ found. IfSome found spec.IsExploration) }
+    ensures are { is_ok result ≡ spec.are_explored (first_value (found_of matches.now)) }
+{
+    let cuts = sized(matches, "cuts", 0, 255)?;
+    let runs = sized(matches, "runs", 1, u32::MAX)?;
+    if explores_all(matches) {
+        return Ok(each_order(cuts, runs));
+    }
+    match sized(matches, "explore", 1, 65535)? {
+        Some(runs) => Ok(Some(Exploration::ByChance(runs))),
+        None => Ok(None),
     }
 }
 
@@ -206,21 +339,27 @@ fn sizes_of<'a>(matches: &ArgMatches<'a>) -> Result<Sizes, BadSize<'a>>
         ≡ option_and_then size_of (first_value (found_of matches.now) (codes "output"))) }
     ensures entries { IfOk result (λ sizes. sizes.entries
         ≡ option_and_then size_of (first_value (found_of matches.now) (codes "entries"))) }
-    ensures are { is_ok result ≡ spec.are_sized
-        (first_value (found_of matches.now) (codes "space"))
-        (first_value (found_of matches.now) (codes "steps"))
-        (first_value (found_of matches.now) (codes "output"))
-        (first_value (found_of matches.now) (codes "entries")) }
+    ensures at { IfOk result (λ sizes. sizes.at
+        ≡ option_and_then size_of (first_value (found_of matches.now) (codes "at"))) }
+    ensures are { is_ok result ≡ (spec.are_sized (first_value (found_of matches.now))
+        && spec.are_explored (first_value (found_of matches.now))) }
+    ensures explore { IfOk result
+        (λ sizes. sizes.explore ≡ spec.exploration_of (first_value (found_of matches.now))) }
+    ensures range { IfOk result (λ sizes. IfSome sizes.explore spec.IsExploration) }
 {
     let space = sized(matches, "space", 4096, 1_048_576)?;
     let steps = sized(matches, "steps", 1, u32::MAX)?;
     let output = sized(matches, "output", 0, u32::MAX)?;
     let entries = sized(matches, "entries", 1, u32::MAX)?;
+    let at = sized(matches, "at", 0, u32::MAX)?;
+    let explore = exploration_of(matches)?;
     Ok(Sizes {
         space: space.unwrap_or(65536),
         steps: steps.unwrap_or(1_000_000_000),
         output,
         entries,
+        at,
+        explore,
     })
 }
 
@@ -296,8 +435,10 @@ pub fn overwritten(alloc: Global) -> Result<Error, AllocError>
 /// Reads the words of a command line, without the program's name. The error is the first fault of
 /// the words by the rules of the command line; or that they name no program or two; or that the
 /// text of a size is none in its range; or that a schedule is given and `--plain`, `--record`,
-/// `--explore` or `--entries` stands there too, or `--explore` and `--stream` or `--where`; or that a
-/// record would be written over the program, as far as the names tell; or want of memory.
+/// `--explore` or `--entries` stands there too, or `--explore` and `--stream` or `--where`, or `--at`
+/// without a schedule, or with `--stream`, `--where`, `--stats` or `--output`; or that all orders are
+/// asked for without `--cuts`, or `--cuts` or `--runs` without them; or that a record would be
+/// written over the program, as far as the names tell; or want of memory.
 pub fn parse<'a>(alloc: Global, words: &'a [&'a str]) -> Result<Options<'a>, Error>
     ensures fault { FailsBy (spec.faults_in (map (λ word. word.now) words.entry.now)) result }
     ensures file { IfOk result (λ options. file_of options.source
@@ -325,14 +466,17 @@ pub fn parse<'a>(alloc: Global, words: &'a [&'a str]) -> Result<Options<'a>, Err
           quantum = options.quantum;
           steps = options.steps;
         })) }
-    ensures explore { IfOk result (λ options. spec.IsOptional (codes "explore")
-        (map (λ word. word.now) words.entry.now) options.explore) }
+    ensures explore { IfOk result (λ options. options.explore
+        ≡ spec.exploration_in (map (λ word. word.now) words.entry.now)) }
     ensures output { IfOk result (λ options. options.output
         ≡ spec.size_in (codes "output") (map (λ word. word.now) words.entry.now)) }
     ensures entries { IfOk result (λ options. options.entries
         ≡ spec.size_in (codes "entries") (map (λ word. word.now) words.entry.now)) }
-    ensures explore_range { IfOk result
-        (λ options. IfSome options.explore (λ count. (1 ≤ count) × (count ≤ 65535))) }
+    ensures at { IfOk result (λ options. options.at
+        ≡ spec.size_in (codes "at") (map (λ word. word.now) words.entry.now)) }
+    ensures at_given { IfOk result (λ options. is_some options.at ≡ true
+        → is_some options.replay_file ≡ true) }
+    ensures explore_range { IfOk result (λ options. IfSome options.explore spec.IsExploration) }
 {
     let mut line = command(alloc)?;
     let matches = line.try_get_matches_from_mut(words)?;
@@ -344,7 +488,7 @@ pub fn parse<'a>(alloc: Global, words: &'a [&'a str]) -> Result<Options<'a>, Err
         Ok(sizes) => sizes,
         Err(bad) => return Err(bad_size(alloc, &mut line, bad)?),
     };
-    if let Some(text) = excluded(&matches) {
+    if let Some(text) = misused(&matches) {
         return Err(line.error(ErrorKind::ArgumentConflict, text)?);
     }
     if is_overwritten(&matches) {
@@ -359,11 +503,12 @@ pub fn parse<'a>(alloc: Global, words: &'a [&'a str]) -> Result<Options<'a>, Err
         plain: matches.get_flag("plain"),
         stream: matches.get_flag("stream"),
         places: matches.get_flag("where"),
-        explore: matches.get_one::<u32>("explore"),
+        explore: sizes.explore,
         output: sizes.output,
         entries: sizes.entries,
         record_file: matches.get_str("record"),
         replay_file: matches.get_str("replay"),
+        at: sizes.at,
         source,
     })
 }

@@ -19,6 +19,7 @@ mod fakes;
 mod held;
 mod judges;
 mod meetings;
+mod orders;
 mod plays;
 mod rows;
 mod runs;

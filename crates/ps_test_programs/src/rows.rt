@@ -12,6 +12,8 @@
 //! waits for the first store in an open cycle, and that store for a hundred words more.
 //! `held SPACE`: in such a space too, step by step, and the log of the first context is closed before
 //! its first step; a store waits until the cycle has ended.
+//! `cuts LIMIT`: in each order of its steps with at most so many cuts; what comes of it is how many
+//! orders there are, and how many cuts each ending takes.
 //! `bounded SIZE`, `full SIZE`, `closed SIZE`: step by step in a space of so many words, with
 //! no cycle open, with a full log, with a closed one; what comes of it begins with why steps were
 //! not made.
@@ -20,6 +22,7 @@ use crate::chances::scheduled;
 use crate::collected::{MANY, Wanted, worked};
 use crate::held::held_up;
 use crate::meetings::collector_copies_while_a_put_is_half_done;
+use crate::orders::explored;
 use crate::plays::{Play, StartingLog};
 use crate::runs::{CommandWords, ran, replayed};
 use anyhow::Result;
@@ -141,6 +144,10 @@ pub fn verdict_of<R: Threads + Wait + Sync>(system: System<'_, R>, line: &str) -
         "held" => {
             let (program, wanted) = (program.as_slice(), wanted.as_slice());
             return Ok(held_up(alloc, keys, program, wanted, number)?);
+        }
+        "cuts" => {
+            let told = explored(alloc, keys, program.as_slice(), number)?;
+            return Ok(Verdict::of(told.as_bytes() == wanted.as_slice()));
         }
         "bounded" => StartingLog::Idle,
         "full" => StartingLog::Full,

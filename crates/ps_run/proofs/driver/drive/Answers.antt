@@ -1,8 +1,8 @@
 use Rattle.std.proofs.Common.{◌≡◌, ℕ, Option, map, inl, inr, refl, sym, ap, subst, ◌∙◌}
-use Rattle.std.specs.Prelude.{codes, ◌⊎◌}
-use Rattle.ps_run_options.specs.CommandLine.{IsFlag, IsOptional}
+use Rattle.std.specs.Prelude.{codes, ◌⊎◌, option_map}
+use Rattle.ps_run_options.specs.CommandLine.{IsFlag, size_in}
 use Rattle.ps_vault.specs.Reports.{IsWithin}
-use Rattle.ps_run.specs.Driving.{AreAsked, AreOutOfRange, Asked, IsFileFault, IsUnread, Names, asked_of, config_in, names_in, names_of}
+use Rattle.ps_run.specs.Driving.{AreAsked, AreOutOfRange, Asked, IsFileFault, IsPastEnd, IsUnread, Names, asked_of, config_in, most_endings, names_in, names_of, records_in, records_of}
 use Rattle.ps_run.specs.Driving as driving
 use Rattle.ps_run.specs.Telling.{Told}
 use Rattle.ps_run.specs.declared.files.ReadFault.{ReadFault}
@@ -40,104 +40,84 @@ are_asked g c asked is = (
       (sym (ap (λ (a : Asked). a.places) is)) c.in-Ok.ensures.places,
   subst (IsFlag (codes "stats") (map (λ word. word.now) c.args.words.now))
       (sym (ap (λ (a : Asked). a.stats) is)) c.in-Ok.ensures.stats,
-  subst (IsOptional (codes "explore") (map (λ word. word.now) c.args.words.now))
-      (sym (ap (λ (a : Asked). a.explored) is)) c.in-Ok.ensures.explore,
+  ap (λ (a : Asked). a.explored) is ∙ c.in-Ok.ensures.explore,
+  ap (λ (a : Asked). a.at) is ∙ c.in-Ok.ensures.at,
   ap (λ (a : Asked). a.output) is ∙ c.in-Ok.ensures.output,
   ap (λ (a : Asked). a.entries) is ∙ c.in-Ok.ensures.entries,
 )
 
+records_are : (g : givens.Over) (c : In-Ok g)
+    → records_of c.in-Ok.options ≡ records_in (map (λ word. word.now) c.args.words.now)
+records_are g c = ap (option_map most_endings) c.in-Ok.ensures.explore
+
 is_fault : (g : givens.Over) (c : In-Ok g) (err : Told)
-    → IsFileFault (g.F.FileSet.contents c.args.outside.now.files) (names_of c.in-Ok.options)
-    c.in-Ok.options.explore (g.X.Telling.told c.args.outside.now.err) err
-    ⊎ ¬ IsWithin (config_in c.in-Ok.options)
-    → ((many : Option ℕ)
-    × IsOptional (codes "explore") (map (λ word. word.now) c.args.words.now) many
-    × IsFileFault (g.F.FileSet.contents c.args.outside.now.files)
-    (names_in (map (λ word. word.now) c.args.words.now)) many
+    → (IsFileFault (g.F.FileSet.contents c.args.outside.now.files) (names_of c.in-Ok.options)
+    (records_of c.in-Ok.options) (g.X.Telling.told c.args.outside.now.err) err
+    ⊎ ¬ IsWithin (config_in c.in-Ok.options))
+    ⊎ IsPastEnd (g.F.FileSet.contents c.args.outside.now.files) (names_of c.in-Ok.options)
+    c.in-Ok.options.at (g.X.Telling.told c.args.outside.now.err) err
+    → IsFileFault (g.F.FileSet.contents c.args.outside.now.files)
+    (names_in (map (λ word. word.now) c.args.words.now))
+    (records_in (map (λ word. word.now) c.args.words.now))
+    (g.X.Telling.told c.args.outside.now.err) err
+    ⊎ (AreOutOfRange (map (λ word. word.now) c.args.words.now)
+    ⊎ IsPastEnd (g.F.FileSet.contents c.args.outside.now.files)
+    (names_in (map (λ word. word.now) c.args.words.now))
+    (size_in (codes "at") (map (λ word. word.now) c.args.words.now))
     (g.X.Telling.told c.args.outside.now.err) err)
-    ⊎ AreOutOfRange (map (λ word. word.now) c.args.words.now)
-is_fault g c err fault = elim fault [
-  | inl file ↦ inl (
-    c.in-Ok.options.explore,
-    c.in-Ok.ensures.explore,
-    subst (λ (names : Names). IsFileFault (g.F.FileSet.contents c.args.outside.now.files) names
-        c.in-Ok.options.explore (g.X.Telling.told c.args.outside.now.err) err) (same_names g c)
-        file,
-  )
-  | inr outside ↦ inr (record {
-    config = config_in c.in-Ok.options;
-    numbers = c.in-Ok.ensures.numbers;
-    outside = outside;
-  })
-]
+is_fault g c err (inl (inl file)) = inl (subst (λ (names : Names).
+    IsFileFault (g.F.FileSet.contents c.args.outside.now.files) names
+    (records_in (map (λ word. word.now) c.args.words.now))
+    (g.X.Telling.told c.args.outside.now.err) err) (same_names g c)
+    (subst (λ (m : Option ℕ). IsFileFault (g.F.FileSet.contents c.args.outside.now.files)
+    (names_of c.in-Ok.options) m (g.X.Telling.told c.args.outside.now.err) err) (records_are g c)
+    file))
+is_fault g c err (inl (inr outside)) = inr (inl (record {
+  config = config_in c.in-Ok.options;
+  numbers = c.in-Ok.ensures.numbers;
+  outside = outside;
+}))
+is_fault g c err (inr past) = inr (inr (subst (λ (names : Names).
+    IsPastEnd (g.F.FileSet.contents c.args.outside.now.files) names
+    (size_in (codes "at") (map (λ word. word.now) c.args.words.now))
+    (g.X.Telling.told c.args.outside.now.err) err) (same_names g c)
+    (subst (λ (at : Option ℕ). IsPastEnd (g.F.FileSet.contents c.args.outside.now.files)
+    (names_of c.in-Ok.options) at (g.X.Telling.told c.args.outside.now.err) err)
+    c.in-Ok.ensures.at past)))
 
--- ---- one run
+-- ---- what the options ask for
 
-pub returns-in-None-clause-run : goal.returns-in-None-clause-run
-returns-in-None-clause-run g c =
-    let at = (goal.at.returns-in-None-clause-run g c).In-Ok in (
-      c.run-status.result.0,
+pub returns-in-Ok-clause-run : goal.returns-in-Ok-clause-run
+returns-in-Ok-clause-run g c =
+    let at = (goal.at.returns-in-Ok-clause-run g c).In-Ok in (
+      c.carry_out-status.result.0,
       c.number_of.ensures,
       driven_more _ _ _ _ _ _ _ _ _ (same_names g at) (are_asked g at)
-          (λ fault. inr (is_fault g at _ fault)) c.run-status.ensures.run,
+          (λ fault. inr (is_fault g at _ fault)) c.carry_out-status.ensures.run,
     )
 
-pub returns-in-None-clause-files : goal.returns-in-None-clause-files
-returns-in-None-clause-files g c = λ name other.
-    c.run-status.ensures.files name (λ is.
-    other c.in-Ok.options.explore c.in-Ok.ensures.explore
-    (record_named _ _ _ _ name c.in-Ok.ensures.record_file (sym c.in-None.is) is))
+pub returns-in-Ok-clause-files : goal.returns-in-Ok-clause-files
+returns-in-Ok-clause-files g c = λ name other.
+    let at = (goal.at.returns-in-Ok-clause-files g c).In-Ok in
+    c.carry_out-status.ensures.files name (λ is.
+    other (record_named _ _ _ _ name c.in-Ok.ensures.record_file (records_are g at) is))
 
-pub returns-in-None-clause-unread : goal.returns-in-None-clause-unread
-returns-in-None-clause-unread g c = λ none.
-    let at = (goal.at.returns-in-None-clause-unread g c).In-Ok in
+pub returns-in-Ok-clause-unread : goal.returns-in-Ok-clause-unread
+returns-in-Ok-clause-unread g c = λ none.
+    let at = (goal.at.returns-in-Ok-clause-unread g c).In-Ok in
     let old = g.X.Telling.told c.args.outside.now.err in
-    let new = g.X.Telling.told c.run-status.new.outside.err in
+    let new = g.X.Telling.told c.carry_out-status.new.outside.err in
     let more : (fault : ReadFault)
-    → IsUnread (names_of c.in-Ok.options) fault c.run-status.result.0 old new
+    → IsUnread (names_of c.in-Ok.options) fault c.carry_out-status.result.0 old new
     → (told : Status) × (c.number_of.result ≡ driving.number_of told)
     × IsUnread (names_in (map (λ word. word.now) c.args.words.now)) fault told old new =
     λ fault is. (
-      c.run-status.result.0,
+      c.carry_out-status.result.0,
       c.number_of.ensures,
-      subst (λ (names : Names). IsUnread names fault c.run-status.result.0 old new)
+      subst (λ (names : Names). IsUnread names fault c.carry_out-status.result.0 old new)
           (same_names g at) is,
     ) in
-    if_mapped _ _ _ more (c.run-status.ensures.unread none)
-
--- ---- many
-
-pub returns-in-Some-clause-run : goal.returns-in-Some-clause-run
-returns-in-Some-clause-run g c =
-    let at = (goal.at.returns-in-Some-clause-run g c).In-Ok in (
-      c.explore-status.result,
-      c.number_of-in-Some.ensures,
-      driven_more _ _ _ _ _ _ _ _ _ (same_names g at) (are_asked g at)
-          (λ fault. inr (is_fault g at _ fault)) c.explore-status.ensures.run,
-    )
-
-pub returns-in-Some-clause-files : goal.returns-in-Some-clause-files
-returns-in-Some-clause-files g c = λ name other.
-    c.explore-status.ensures.files name (λ is.
-    other c.in-Ok.options.explore c.in-Ok.ensures.explore
-    (record_named _ _ _ _ name c.in-Ok.ensures.record_file refl is))
-
-pub returns-in-Some-clause-unread : goal.returns-in-Some-clause-unread
-returns-in-Some-clause-unread g c = λ none.
-    let at = (goal.at.returns-in-Some-clause-unread g c).In-Ok in
-    let old = g.X.Telling.told c.args.outside.now.err in
-    let new = g.X.Telling.told c.explore-status.new.outside.err in
-    let more : (fault : ReadFault)
-    → IsUnread (names_of c.in-Ok.options) fault c.explore-status.result old new
-    → (told : Status) × (c.number_of-in-Some.result ≡ driving.number_of told)
-    × IsUnread (names_in (map (λ word. word.now) c.args.words.now)) fault told old new =
-    λ fault is. (
-      c.explore-status.result,
-      c.number_of-in-Some.ensures,
-      subst (λ (names : Names). IsUnread names fault c.explore-status.result old new)
-          (same_names g at) is,
-    ) in
-    if_mapped _ _ _ more (c.explore-status.ensures.unread none)
+    if_mapped _ _ _ more (c.carry_out-status.ensures.unread none)
 
 -- ---- faulty words
 

@@ -4,7 +4,7 @@ use Rattle.ps_vault.specs.Screens.{HasShown, HasShownSome}
 use Rattle.ps_run.specs.Driving.{Asked, Contents, IsGiven, asked_of, line_of, names_of}
 use Rattle.ps_run.specs.Telling.{Tells, Told}
 use Rattle.ps_run.specs.declared.statuses.Status.TheVariants as status
-use Rattle.ps_run.proofs.Driven.{keeps_program, record_named, written_from}
+use Rattle.ps_run.proofs.Driven.{keeps_program, written_from}
 use Rattle.ps_run.proofs.Streamed.{begun_or_same, cut_streamed, of_fault, of_report}
 use Rattle.ps_run.proofs.driver.run.Goals as goal
 
@@ -21,6 +21,7 @@ returns-in-Ok-report-clause-run g c =
       asked = asked_of c.args.options.now;
       is_asked = refl;
       is_single = c.requires.single;
+      is_whole = c.requires.whole;
       cut = shown.failed;
       report = report;
       run = record {
@@ -49,8 +50,7 @@ returns-in-Ok-report-clause-run g c =
           (c.finish.ensures.written first seen);
       keeps = keeps_program _ _ (names_of c.args.options.now).recorded None c.in-Ok.program.items
           (λ name is. rw (c.as_slice-bytes.ensures.value, c.in-Ok.ensures.kept) at
-          (c.in_default.ensures.kept name
-          (record_named _ _ _ _ name refl (sym c.requires.single) is)))
+          (c.in_default.ensures.kept name is))
           (λ name other. c.finish.ensures.others name other
           ∙ ap (λ (contents : Contents). contents name)
           (c.in-Ok-read_given.ensures.kept ∙ c.in-Ok.ensures.kept));

@@ -1,23 +1,16 @@
-use Rattle.std.proofs.Common.{◌≡◌, ◌<◌, ◌≤◌, ◌^◌, ℕ, ap, sym, subst, ◌∙◌, refl, arith, codes, rules, true, true≢false, map, List, [], ◌∷◌, Bool, false, Option, Some, None, is_ok, is_some, IfSome, inl, inr}
-use Rattle.std.specs.Prelude.{◌||◌, find, option_and_then, option_map, slice_get, unwrap_or, Result, Err}
-use Rattle.std.specs.List.{list_all}
-use Rattle.std.specs.Str.{bytes_eq}
+use Rattle.std.proofs.Common.{◌≡◌, ◌<◌, ◌^◌, ℕ, ap, sym, subst, ◌∙◌, refl, codes, rules, true, true≢false, map, List, [], ◌∷◌, Bool, false, Option, Some, None, is_ok, is_some, inl, inr}
+use Rattle.std.specs.Prelude.{◌&&◌, ◌||◌, is_none, option_and_then, option_map, unwrap_or, Result, Err}
 use Rattle.std.specs.Str.Parse.{IsNumeral, ParsesUnsigned, ExplainsUnsignedError, HasUnsignedDigitsIfOk, digits_value, without_leading_plus}
 use Rattle.std.specs.Borrow.{Bor}
-use Rattle.clap.specs.Words.{App, BuildsTo, IsParsed, IsUnsignedIn, Row, Rule, Text, app_of, read_as, fault_of, found_of, first_value, first_of, one_text, one_of, is_simple, is_simple_and_free, matches_of, rows_of, HasKind, HasMatchesOf, Kinds, ReadsOne}
+use Rattle.clap.specs.Words.{App, Text, app_of, fault_of, found_of, first_value, first_of, one_text, one_of, is_simple, is_simple_and_free, matches_of, rows_of, HasKind, HasMatchesOf, Kinds, ReadsOne}
 use Rattle.clap.specs.Kinds.{or_else}
 use Rattle.clap.specs.declared.error.Error.{Error}
 use Rattle.clap.specs.declared.builder.command.Command.{Command}
-use Rattle.clap.specs.declared.builder.command.Command.TheViews.{out-Command}
 use Rattle.clap.specs.declared.parser.matches.ArgMatches.{ArgMatches}
-use Rattle.clap.specs.Walk.{row_text}
-use Rattle.clap.specs.declared.builder.value_parser.Reading.{Reading}
 use Rattle.clap.proofs.OnLiterals.{clap_on_literals}
 use Rattle.clap.proofs.WalkLemmas.{first_value-rows, one_text-rows}
-use Rattle.clap.proofs.SimpleLemmas.{plain_fields, simple_groups}
-use Rattle.ps_run_options.specs.CommandLine.{IsOptional, are_sized, are_sizes, command_line, faults_in, flag_in, excludes, is_excluded, named_in, overwrites, is_overwritten, own_faults, source_fault}
+use Rattle.ps_run_options.specs.CommandLine.{are_explored, are_sized, are_sizes, exploration_of, misses, command_line, faults_in, flag_in, excludes, is_excluded, named_in, overwrites, is_overwritten, own_faults, source_fault, tells_whole}
 use Rattle.ps_run_options.specs.Sizes.{size_of}
-use Rattle.ps_run_options.proofs.Ranges.{HasRange, IsOwn, text_in_range}
 use Rattle.ps_run_options.proofs.options.parse.Goals as goal
 
 -- the command line is one whose matches and faults the rules decide
@@ -77,23 +70,13 @@ flag_is : (made : Command) (words : List Text) (m : ArgMatches) (id : Text)
 flag_is made words m id is has = one_text-rows (found_of m) id
     ∙ ap (one_of id) (rows_are made words m is has)
 
--- whether one thing excludes another
+-- whether one thing excludes another, or wants one that isn't there
 excluded_is : (made : Command) (words : List Text) (m : ArgMatches) → app_of made ≡ command_line
     → HasMatchesOf (app_of made) words m
-    → excludes (first_value (found_of m) (codes "replay"))
-    (first_value (found_of m) (codes "plain")) (first_value (found_of m) (codes "record"))
-    (first_value (found_of m) (codes "explore")) (first_value (found_of m) (codes "entries"))
-    (first_value (found_of m) (codes "stream")) (first_value (found_of m) (codes "where"))
-    ≡ is_excluded words
+    → excludes (first_value (found_of m)) || misses (first_value (found_of m)) ≡ is_excluded words
 excluded_is made words m is has =
-    let replay = name_is made words m (codes "replay") is has in
-    let plain = name_is made words m (codes "plain") is has in
-    let recorded = name_is made words m (codes "record") is has in
-    let explored = name_is made words m (codes "explore") is has in
-    let entries = name_is made words m (codes "entries") is has in
-    let streamed = name_is made words m (codes "stream") is has in
-    let places = name_is made words m (codes "where") is has in
-    λ i. excludes (replay i) (plain i) (recorded i) (explored i) (entries i) (streamed i) (places i)
+    λ i. excludes (λ name. name_is made words m name is has i)
+    || misses (λ name. name_is made words m name is has i)
 
 -- whether a record is written over the program
 overwritten_is : (made : Command) (words : List Text) (m : ArgMatches)
@@ -120,15 +103,11 @@ source_is made words m is has =
 -- whether the sizes are in their ranges
 sizes_are : (made : Command) (words : List Text) (m : ArgMatches) → app_of made ≡ command_line
     → HasMatchesOf (app_of made) words m
-    → are_sized (first_value (found_of m) (codes "space"))
-    (first_value (found_of m) (codes "steps")) (first_value (found_of m) (codes "output"))
-    (first_value (found_of m) (codes "entries")) ≡ are_sizes words
+    → are_sized (first_value (found_of m)) && are_explored (first_value (found_of m))
+    ≡ are_sizes words
 sizes_are made words m is has =
-    let space = name_is made words m (codes "space") is has in
-    let steps = name_is made words m (codes "steps") is has in
-    let output = name_is made words m (codes "output") is has in
-    let entries = name_is made words m (codes "entries") is has in
-    λ i. are_sized (space i) (steps i) (output i) (entries i)
+    λ i. are_sized (λ name. name_is made words m name is has i)
+    && are_explored (λ name. name_is made words m name is has i)
 
 or_true : (b : Bool) → (b || true) ≡ true
 or_true true = refl
@@ -180,9 +159,7 @@ sized_faults : (made : Command) (words : List Text) (m : ArgMatches) (excluded o
     → HasMatchesOf (app_of made) words m
     → source_fault (first_value (found_of m) (codes "FILE")) (first_value (found_of m) (codes "e"))
     ≡ []
-    → are_sized (first_value (found_of m) (codes "space"))
-    (first_value (found_of m) (codes "steps")) (first_value (found_of m) (codes "output"))
-    (first_value (found_of m) (codes "entries")) ≡ true
+    → are_sized (first_value (found_of m)) && are_explored (first_value (found_of m)) ≡ true
     → is_excluded words ≡ excluded → is_overwritten words ≡ overwritten
     → faults_in words ≡ own_faults [] true (excluded || overwritten)
 sized_faults made words m excluded overwritten is none has one sized =
@@ -196,7 +173,7 @@ returns-in-Some-clause-fault c =
     let sized : is_ok c.sizes_of.result ≡ true = search rules in
     let told : is_excluded words ≡ true =
     sym (excluded_is c.in_ok-line.line words c.in_ok-matches.matches c.in_ok-line.ensures
-    c.in_ok-matches.ensures.ok.2) ∙ sym c.excluded.ensures ∙ ap is_some c.in-Some.is in
+    c.in_ok-matches.ensures.ok.2) ∙ sym c.misused.ensures ∙ ap is_some c.in-Some.is in
     let faults = sized_faults c.in_ok-line.line words c.in_ok-matches.matches true
     (is_overwritten words) c.in_ok-line.ensures c.in_ok-matches.ensures.kinds
     c.in_ok-matches.ensures.ok.2 c.in-Ok.ensures.one (sym c.sizes_of.ensures.are ∙ sized) told refl in
@@ -223,10 +200,10 @@ returns-clause-fault c =
     let words : List Text = map {A = Bor Text} {B = Text} (λ (word : Bor Text). word.now)
     c.args.words.now in
     let sized : is_ok c.sizes_of.result ≡ true = search rules in
-    let none : c.excluded.result ≡ None = search rules in
+    let none : c.misused.result ≡ None = search rules in
     let free : is_excluded words ≡ false =
     sym (excluded_is c.in_ok-line.line words c.in_ok-matches.matches c.in_ok-line.ensures
-    c.in_ok-matches.ensures.ok.2) ∙ sym c.excluded.ensures ∙ ap is_some none in
+    c.in_ok-matches.ensures.ok.2) ∙ sym c.misused.ensures ∙ ap is_some none in
     let apart : is_overwritten words ≡ false =
     sym (overwritten_is c.in_ok-line.line words c.in_ok-matches.matches c.in_ok-line.ensures
     c.in_ok-matches.ensures.ok.2) ∙ sym c.is_overwritten.ensures ∙ c.if-is_overwritten.false in
@@ -259,6 +236,11 @@ returns-clause-output c = c.in-Ok-sizes_of.ensures.output
 pub returns-clause-entries : goal.returns-clause-entries
 returns-clause-entries c = c.in-Ok-sizes_of.ensures.entries
     ∙ ap (option_and_then size_of) (name_is _ _ _ (codes "entries") c.in_ok-line.ensures
+    c.in_ok-matches.ensures.ok.2)
+
+pub returns-clause-at : goal.returns-clause-at
+returns-clause-at c = c.in-Ok-sizes_of.ensures.at
+    ∙ ap (option_and_then size_of) (name_is _ _ _ (codes "at") c.in_ok-line.ensures
     c.in_ok-matches.ensures.ok.2)
 
 pub returns-clause-stats : goal.returns-clause-stats
@@ -325,158 +307,40 @@ returns-clause-numbers c =
           (name_is _ _ _ (codes "steps") made found);
     }
 
--- an option whose text is read has a first text, and one whose text isn't has none
-text_or_none : (id : Text) (rows : List Row) → is_some (first_of id rows) ≡ is_some (one_of id rows)
-text_or_none id rows = go (find (λ r. bytes_eq r.id id) rows)
-  where
-    same : (how : Reading) (o : Option Text) → is_some o ≡ is_some (option_map (read_as how) o)
-    same how None = refl
-    same how (Some text) = refl
-
-    go : (o : Option Row) → is_some (option_and_then (λ r. slice_get r.values 0) o)
-        ≡ is_some (option_and_then row_text o)
-    go None = refl
-    go (Some row) = same row.reading (slice_get row.values 0)
-
-none_is : (o : Option Text) → is_some o ≡ false → o ≡ None
-none_is None absent = refl
-none_is (Some text) absent = absurd (true≢false absent)
-
--- the number of a text that passed its range, and none where there is no text
-abbrev IsRead : (least most : ℕ) → Option Text → Option ℕ → Type 0
-IsRead least most None found = found ≡ None
-IsRead least most (Some text) found =
-    (number : ℕ) × (found ≡ Some number) × IsUnsignedIn least most text
-    × (number ≡ digits_value 10 (without_leading_plus text))
-
-is_read : {E : Type 0} (A B : Text → Result ℕ E → Type 0) (least most : ℕ) (text : Option Text)
-    (found : Option ℕ) → most < 2 ^ 32 → (text ≡ None → found ≡ None)
-    → ((t : Text) → text ≡ Some t
-    → ReadsOne (λ t r. ParsesUnsigned 32 10 t r × A t r × B t r) t found)
-    → ((t : Text) → text ≡ Some t → IsUnsignedIn least most t) → IsRead least most text found
-is_read A B least most None found few none reads passes = none refl
-is_read A B least most (Some t) (Some number) few none reads passes =
-    (number, refl, passes t refl, (reads t refl).0.1)
-is_read A B least most (Some t) None few none reads passes =
-    let passed = passes t refl in
-    let high = passed.2 in
-    absurd ((reads t refl).1.0 (passed.0, omega (arith, few, high)))
-
-optional : (id : Text) (least most : ℕ) (words : List Text) (text : Option Text) (found : Option ℕ)
-    → one_of id (matches_of command_line words) ≡ text → IsRead least most text found
-    → IsOptional id words found
-optional id least most words None found is none =
-    let no = text_or_none id (matches_of command_line words) ∙ ap is_some is in
-    subst (IsOptional id words) (sym none) (none_is _ no)
-optional id least most words (Some text) found is read =
-    let has = text_or_none id (matches_of command_line words) ∙ ap is_some is in
-    subst (IsOptional id words) (sym read.1) (
-      has,
-      λ t also numeral small. read.3
-          ∙ ap (λ (o : Option Text). digits_value 10 (without_leading_plus (unwrap_or o t)))
-          (sym is ∙ also),
-    )
-
-abbrev IsInRange : Option ℕ → Type 0
-IsInRange found = IfSome found (λ number. (1 ≤ number) × (number ≤ 65535))
-
-in_range : (text : Option Text) (found : Option ℕ) → IsRead 1 65535 text found → IsInRange found
-in_range None found none = subst IsInRange (sym none) tt
-in_range (Some text) found read =
-    subst IsInRange (sym read.1) (rw read.3 read.2.2, rw read.3 read.2.3)
-
--- the rules of the line ask for such a number of schedules
-explore_rules : HasRange (codes "explore") 1 65535 command_line.top.rules
-explore_rules = (
-  λ e. cc,
-  (
-    λ e. cc,
-    (
-      λ e. cc,
-      (
-        λ e. cc,
-        (
-          λ e. cc,
-          (
-            λ e. cc,
-            (
-              λ e. cc,
-              (
-                λ e. cc,
-                (
-                  λ e. cc,
-                  (
-                    λ e. cc,
-                    (
-                      λ e. cc,
-                      (
-                        λ e. cc,
-                        (
-                          λ e. cc,
-                          (λ e. cc, (λ e. refl, tt)),
-                        ),
-                      ),
-                    ),
-                  ),
-                ),
-              ),
-            ),
-          ),
-        ),
-      ),
-    ),
-  ),
-)
-
--- and so a text that a parse took is one
-passes : (id : Text) (least most : ℕ) (made new : Command) (m : ArgMatches) (has : Bool)
-    → HasRange id least most command_line.top.rules → IsOwn id → app_of made ≡ command_line
-    → BuildsTo made new → ((out-Command new).has_globals ≡ false → IsParsed new (found_of m) has)
-    → (t : Text) → one_text (found_of m) id ≡ Some t → IsUnsignedIn least most t
-passes id least most made new m has rules own is builds parsed =
-    let plain = plain_fields made (ap (λ (app : App). app.top.is_plain) is) in
-    let simple = simple_groups made
-    (ap (λ (app : App). list_all (λ (r : Rule). r.is_simple) app.top.rules) is) in
-    text_in_range made new (found_of m) id least most builds
-    (subst (λ (app : App). HasRange id least most app.top.rules) (sym is) rules) own
-    ((builds.same_groups simple).1 ∙ plain.groups)
-    (parsed (builds.globals ∙ plain.globals)).values
-
--- what is read of the words
-number_or_none : (id : Text) (least most : ℕ) (made new : Command) (words : List Text)
-    (m : ArgMatches) (has : Bool) {E : Type 0} (A B : Text → Result ℕ E → Type 0)
-    (found : Option ℕ) → HasRange id least most command_line.top.rules → IsOwn id
-    → most < 2 ^ 32 → app_of made ≡ command_line
-    → BuildsTo made new → ((out-Command new).has_globals ≡ false → IsParsed new (found_of m) has)
-    → HasMatchesOf (app_of made) words m → (one_text (found_of m) id ≡ None → found ≡ None)
-    → ((t : Text) → one_text (found_of m) id ≡ Some t
-    → ReadsOne (λ t r. ParsesUnsigned 32 10 t r × A t r × B t r) t found)
-    → IsRead least most (one_of id (matches_of command_line words)) found
-number_or_none id least most made new words m has A B found rules own few is builds parsed matches
-    none reads =
-    let same = flag_is made words m id is matches in
-    is_read A B least most (one_of id (matches_of command_line words)) found few
-    (λ e. none (same ∙ e)) (λ t e. reads t (same ∙ e))
-    (λ t e. passes id least most made new m has rules own is builds parsed t (same ∙ e))
-
 pub returns-clause-explore : goal.returns-clause-explore
-returns-clause-explore c =
-    let words : List Text = map {A = Bor Text} {B = Text} (λ (word : Bor Text). word.now)
-    c.args.words.now in
-    optional (codes "explore") 1 65535 words _ c.get_one-3.result refl
-    (number_or_none (codes "explore") 1 65535 c.in_ok-line.line _ words c.in_ok-matches.matches _
-    (λ t r. ExplainsUnsignedError 10 t r) (λ t r. HasUnsignedDigitsIfOk t r) c.get_one-3.result
-    explore_rules (record { named = λ e. cc; no_help = refl; no_version = refl }) (omega arith)
-    c.in_ok-line.ensures c.in_ok-matches.ensures.ok.0 c.in_ok-matches.ensures.ok.1
-    c.in_ok-matches.ensures.ok.2 c.get_one-3.ensures.none c.get_one-3.ensures.value)
+returns-clause-explore c = c.in-Ok-sizes_of.ensures.explore
+    ∙ (λ i. exploration_of
+    (λ name. name_is _ _ _ name c.in_ok-line.ensures c.in_ok-matches.ensures.ok.2 i))
 
-pub returns-clause-explore_range : goal.returns-clause-explore_range
-returns-clause-explore_range c =
-    let words : List Text = map {A = Bor Text} {B = Text} (λ (word : Bor Text). word.now)
-    c.args.words.now in
-    in_range _ c.get_one-3.result
-    (number_or_none (codes "explore") 1 65535 c.in_ok-line.line _ words c.in_ok-matches.matches _
-    (λ t r. ExplainsUnsignedError 10 t r) (λ t r. HasUnsignedDigitsIfOk t r) c.get_one-3.result
-    explore_rules (record { named = λ e. cc; no_help = refl; no_version = refl }) (omega arith)
-    c.in_ok-line.ensures c.in_ok-matches.ensures.ok.0 c.in_ok-matches.ensures.ok.1
-    c.in_ok-matches.ensures.ok.2 c.get_one-3.ensures.none c.get_one-3.ensures.value)
+-- ---- a state is that of a schedule
+
+last_false : (a b : Bool) → (a || b) ≡ false → b ≡ false
+last_false true b is = cc
+last_false false b is = is
+
+some_mapped : (name : Option (Bor Text)) → is_some (option_map (λ s. s.now) name) ≡ true
+    → is_some name ≡ true
+some_mapped None some = some
+some_mapped (Some name) some = refl
+
+first_false : (a b : Bool) → (a || b) ≡ false → a ≡ false
+first_false true b is = cc
+first_false false b is = refl
+
+-- where nothing excludes another, a state isn't asked for without a schedule
+has_schedule : (at replay : Option Text) (whole : Bool) (step : Option ℕ)
+    → (is_some at && (is_none replay || whole)) ≡ false
+    → step ≡ option_and_then size_of at → is_some step ≡ true → is_some replay ≡ true
+has_schedule None replay whole step free is some = absurd (true≢false (sym some ∙ ap is_some is))
+has_schedule (Some text) None whole step free is some = absurd (true≢false free)
+has_schedule (Some text) (Some name) whole step free is some = refl
+
+pub returns-clause-at_given : goal.returns-clause-at_given
+returns-clause-at_given c = λ some.
+    let given = first_value (found_of c.in_ok-matches.matches) in
+    let none : c.misused.result ≡ None = search rules in
+    let free : excludes given || misses given ≡ false = sym c.misused.ensures ∙ ap is_some none in
+    let replayed : is_some (given (codes "replay")) ≡ true =
+    has_schedule (given (codes "at")) (given (codes "replay")) (tells_whole given)
+    c.in-Ok-sizes_of.sizes.at (last_false _ _ (first_false _ _ free)) c.in-Ok-sizes_of.ensures.at some in
+    some_mapped c.get_str-2.result (ap is_some c.get_str-2.ensures ∙ replayed)

@@ -1,0 +1,264 @@
+//! All orders of a program's steps with few cuts, and the lines that tell of them.
+
+ghost use Rattle.std.specs.Prelude.{◌≡◌, ◌+◌, ◌<◌, ◌≤◌, ◌^◌, ◌⊎◌, ◌++◌, ℕ, List, true, false, None, Some, map, length, IfOk, IfSome, OnOk};
+ghost use Rattle.ps_run_options.specs.CommandLine.{IsExploration};
+ghost use Rattle.ps_vault.specs.Reports.{IsWithin};
+ghost use Rattle.ps_run.specs.Driving as driving;
+ghost use Rattle.ps_run.specs.Driving.{IsDriven, IsFileFault, IsRecordName, IsUnread, asked_of, config_in, names_of, records_of};
+ghost use Rattle.ps_run.specs.Orders as orders;
+ghost use Rattle.ps_run.specs.Orders.{AreOrders, AreTold, Orders, report_of};
+
+use crate::endings::{ManyRuns, finish_all};
+use crate::files::FileSet;
+use crate::keeping::{Records, keep_program};
+use crate::making::config_of;
+use crate::outputs::{Flushing, Telling};
+use crate::outside::Outside;
+use crate::progress::Progress;
+use crate::reading::read_program;
+use crate::statuses::{Status, end};
+use crate::systems::System;
+use ps_ctx::deeds::Deeds;
+use ps_ctx::makers::Makers;
+use ps_cuts::{Ending, Runs, explore_orders};
+use ps_run_options::{Exploration, Options, OrderBounds};
+use ps_run_schedules::{Schedule, steps_of};
+use ps_searches::{Bounds, Found, Told, Watcher};
+use ps_step_interpreter::interprets::Interpret;
+use ps_vault::{Outcome, Report, Setup, Task};
+use ps_views::{EndingLine, Reach, append_ending, append_reach};
+use std::alloc::{AllocError, Global};
+
+/// Shows how far a search of all orders is.
+#[derive(Drop)]
+struct Shown<P: Progress + Drop> {
+    progress: P,
+}
+
+impl<P: Progress + Drop> Watcher for Shown<P> {
+    fn run_ended(&mut self, runs: u64, endings: usize, price: u32) {
+        self.progress.show_orders(runs, endings, price);
+    }
+
+    fn search_ended(&mut self) {
+        self.progress.clear();
+    }
+}
+
+/// What an outcome is called.
+fn called(outcome: Outcome) -> ps_views::Outcome
+    ensures { result ≡ orders.called_as outcome }
+{
+    match outcome {
+        Outcome::Finished => ps_views::Outcome::Finished,
+        Outcome::Faulted => ps_views::Outcome::Faulted,
+        Outcome::AllWaiting => ps_views::Outcome::AllWaiting,
+        Outcome::StepsOut => ps_views::Outcome::StepsOut,
+        Outcome::Memory => ps_views::Outcome::Memory,
+    }
+}
+
+/// What is told of an ending, which is behind so many others.
+fn told_as(behind: usize, ending: &Ending, told: &Told<Schedule>) -> EndingLine
+    requires few { behind < 2 ^ 63 }
+    ensures { result ≡ orders.told_as (behind + 1) (ending.now, told.now) }
+{
+    EndingLine {
+        number: behind as u64 + 1,
+        cuts: told.price,
+        steps: steps_of(told.schedule.entries()),
+        outcome: called(ending.outcome),
+        printed: ending.printed.len() as u64,
+    }
+}
+
+/// Appends the line of each ending. Fails where a growth is refused.
+fn append_endings(found: &Found<Ending, Schedule>, to: &mut Vec<u8>) -> Result<(), AllocError>
+    ensures { OnOk result (to.new.items
+        ≡ to.old.items ++ orders.lines_behind 0 found.now.endings.entries) }
+{
+    for place in 0..found.endings.len() {
+        let Some((ending, told)) = found.endings.get_index(place) else {
+            unreachable!()
+        };
+        append_ending(&told_as(place, ending, told), to)?;
+    }
+    Ok(())
+}
+
+/// The lines that tell of orders: which were explored, and how they ended. Fails for want of memory.
+fn lines_of(
+    alloc: Global,
+    bounds: OrderBounds,
+    found: &Found<Ending, Schedule>,
+) -> Result<Vec<u8>, AllocError>
+    ensures { IfOk result (λ lines. lines.items ≡ orders.order_lines bounds (record {
+      endings = found.now.endings.entries;
+      below = found.now.below;
+      runs = found.now.runs;
+    })) }
+{
+    let mut lines = Vec::new(alloc);
+    let reach = Reach {
+        cuts: bounds.cuts,
+        below: found.below,
+        runs: found.runs,
+    };
+    append_reach(reach, &mut lines)?;
+    append_endings(found, &mut lines)?;
+    Ok(lines)
+}
+
+/// The runs of the orders that are told. Fails for want of memory.
+fn reports_of(alloc: Global, mut found: Found<Ending, Schedule>) -> Result<Vec<Report>, AllocError>
+    ensures { IfOk result (λ reports. reports.items ≡ map report_of found.endings.entries) }
+{
+    let mut reports = Vec::new(alloc);
+    while let Some((ending, told)) = found.endings.pop() {
+        let Ending { printed, outcome } = ending;
+        let Told { schedule, .. } = told;
+        reports.push(Report {
+            printed,
+            schedule,
+            outcome,
+            flips: 0,
+            taken: 0,
+        })?;
+    }
+    reports.reverse();
+    Ok(reports)
+}
+
+/// The runs of orders that are told, how many runs were made in all, and the lines that tell of them.
+#[derive(Drop)]
+struct Explored {
+    reports: Vec<Report>,
+    runs: u32,
+    lines: Vec<u8>,
+}
+
+/// Explores the orders of a program's steps within these bounds. Fails for want of memory.
+fn explore_all<S: Interpret + Clone + Drop, D: Deeds + Clone + Drop, P: Progress + Drop>(
+    runs: &Runs<'_, S, D>,
+    steps: u32,
+    bounds: OrderBounds,
+    progress: P,
+) -> Result<Explored, AllocError>
+    requires some { 1 ≤ bounds.runs }
+    ensures told { IfOk result (λ explored. AreTold runs.now.task.program.now steps bounds
+        explored.reports.items explored.runs explored.lines.items) }
+    ensures some { IfOk result (λ explored. 1 ≤ length explored.reports.items) }
+    ensures few { IfOk result (λ explored. length explored.reports.items ≤ bounds.runs) }
+{
+    let limits = Bounds {
+        steps,
+        price: bounds.cuts,
+        runs: u64::from(bounds.runs),
+    };
+    let found = explore_orders(runs, limits, Shown { progress })?;
+    let lines = lines_of(runs.alloc, bounds, &found)?;
+    let made = found.runs as u32;
+    let reports = reports_of(runs.alloc, found)?;
+    Ok(Explored {
+        reports,
+        runs: made,
+        lines,
+    })
+}
+
+/// Reads the program, runs it in each order of its steps with at most as many cuts as is asked for,
+/// and writes what the first order printed, the record of an order of each ending where that is
+/// asked for, which orders were explored and how each ending came.
+pub(crate) fn explore_each_order<
+    S: Interpret + Clone + Drop,
+    D: Deeds + Clone + Drop,
+    F: FileSet,
+    W: Flushing,
+    X: Telling,
+    R,
+>(
+    system: System<'_, R>,
+    makers: Makers<S, D>,
+    options: &Options<'_>,
+    out: &mut W,
+    outside: &mut Outside<F, X>,
+) -> Status
+    requires all { (bounds : OrderBounds) × (options.now.explore ≡ Some (Exploration.EachOrder bounds)) }
+    requires range { IfSome options.now.explore IsExploration }
+    ensures files { (name : List ℕ) → ¬ IsRecordName (names_of options.now).recorded
+        (records_of options.now) name
+        → F.contents outside.new.files name ≡ F.contents outside.old.files name }
+    ensures unread { F.last_fault outside.old.files ≡ None
+        → IfSome (F.last_fault outside.new.files)
+        (λ fault. IsUnread (names_of options.now) fault result
+        (X.told outside.old.err) (X.told outside.new.err)) }
+    ensures unwritten { F.is_unwritten outside.old.files ≡ false
+        → F.is_unwritten outside.new.files ≡ true
+        → result ≡ Status.Usage }
+    ensures run { IsDriven S.asks (names_of options.now)
+        (λ asked. asked ≡ asked_of options.now)
+        (IsFileFault (F.contents outside.old.files) (names_of options.now) (records_of options.now)
+        (X.told outside.old.err) (X.told outside.new.err) ⊎ ¬ IsWithin (config_in options.now))
+        result (record {
+          out_old = W.contents out.old;
+          out_new = W.contents out.new;
+          err_old = X.told outside.old.err;
+          err_new = X.told outside.new.err;
+          files_old = F.contents outside.old.files;
+          files_new = F.contents outside.new.files;
+          flushed = W.is_flushed out.new;
+        }) }
+{
+    let alloc = system.alloc;
+    let Some(Exploration::EachOrder(bounds)) = options.explore else {
+        unreachable!()
+    };
+    let program = match read_program(alloc, options, outside) {
+        Ok(program) => program,
+        Err(status) => return status,
+    };
+    let bytes = program.as_slice();
+    let runs = runs_of(system, makers, bytes, options);
+    let progress = outside.err.progress();
+    let Ok(explored) = explore_all(&runs, options.steps, bounds, progress) else {
+        return end(&mut outside.err, Status::Memory);
+    };
+    let endings = explored.reports.as_slice();
+    let records = Records {
+        name: options.record_file,
+        many: Some(endings.len() as u32),
+    };
+    if let Err(status) = keep_program(alloc, records, bytes, &outside.files, &mut outside.err) {
+        return status;
+    }
+    let many = ManyRuns {
+        runs: explored.runs,
+        endings,
+        also: explored.lines.as_slice(),
+    };
+    finish_all(alloc, many, options, out, outside)
+}
+
+/// The program, to be run again and again.
+fn runs_of<'a, S: Interpret + Drop, D: Deeds + Drop, R>(
+    system: System<'_, R>,
+    makers: Makers<S, D>,
+    program: &'a [u8],
+    options: &Options<'_>,
+) -> Runs<'a, S, D>
+    ensures { result.task.program.now ≡ program.entry.now }
+{
+    let config = config_of(options);
+    Runs {
+        alloc: system.alloc,
+        task: Task {
+            makers,
+            program,
+            setup: Setup {
+                keys: system.keys,
+                output: config.output,
+            },
+        },
+        entries: config.entries,
+    }
+}
