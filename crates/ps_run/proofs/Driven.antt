@@ -81,14 +81,15 @@ driven_more asks names other A B F G told outputs same more fault driven =
     with_more (inr (inr (inr (inr (inr (inl state)))))) = inr (inr (inr (inr (inr (inl (record {
       asked = state.asked;
       is_asked = more state.asked state.is_asked;
-      step = state.step;
+      view = state.view;
       is_at = state.is_at;
       program = state.program;
       is_program = state.is_program;
       given = state.given;
       is_given = state.is_given;
       within = state.within;
-      origins = state.origins;
+      text = state.text;
+      is_text = state.is_text;
       written = state.written;
     }))))))
     with_more (inr (inr (inr (inr (inr (inr untold)))))) = inr (inr (inr (inr (inr (inr (record {

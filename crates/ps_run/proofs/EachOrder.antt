@@ -4,8 +4,7 @@ use Rattle.std.specs.Prelude.{slice_get, unwrap_or}
 use Rattle.ps_cuts.specs.declared.endings.Ending.{Ending}
 use Rattle.ps_run_schedules.specs.Keeping.{Kept}
 use Rattle.ps_searches.specs.declared.found.Told.{Told}
-use Rattle.ps_views.specs.Orders.{ending_line}
-use Rattle.ps_run.specs.Orders.{lines_behind, report_of, told_as}
+use Rattle.ps_run.specs.Orders.{line_told, lines_behind, report_of}
 
 -- there is one of each
 pub length_reports : (endings : List (Ending × Told Kept))
@@ -17,15 +16,15 @@ length_reports (told ∷ rest) = ap suc (length_reports rest)
 pub next_line : (last place : ℕ) (endings : List (Ending × Told Kept)) (one : Ending × Told Kept)
     → slice_get endings place ≡ Some one
     → lines_behind last (drop place endings)
-    ≡ ending_line (told_as (last + 1) one) ++ lines_behind (last + 1) (drop (place + 1) endings)
+    ≡ line_told (last + 1) one ++ lines_behind (last + 1) (drop (place + 1) endings)
 next_line last zero (told ∷ rest) one is =
-    ap (λ (e : Ending × Told Kept). ending_line (told_as (last + 1) e)
+    ap (λ (e : Ending × Told Kept). line_told (last + 1) e
     ++ lines_behind (last + 1) rest)
     (ap (λ (o : Option (Ending × Told Kept)). unwrap_or o told) is)
 next_line last (suc place) (told ∷ rest) one is =
     let next : suc (place + 1) ≡ suc place + 1 = omega arith in
     next_line last place rest one is
-    ∙ ap (λ n. ending_line (told_as (last + 1) one) ++ lines_behind (last + 1) (drop n (told ∷ rest)))
+    ∙ ap (λ n. line_told (last + 1) one ++ lines_behind (last + 1) (drop n (told ∷ rest)))
     next
 next_line last zero [] one is = absurd (let bad : None ≡ Some one = is in cc)
 next_line last (suc place) [] one is = absurd (let bad : None ≡ Some one = is in cc)

@@ -5,6 +5,8 @@ use Rattle.ps_mem.specs.Heap.{Space}
 use Rattle.ps_mem.specs.Plain.{plain_space}
 use Rattle.ps_run_options.specs.declared.options.Options.{Options}
 use Rattle.ps_run_options.specs.CommandLine.{IsNumber, IsFlag, AreNumbers, exploration_in, named_in, size_in}
+use Rattle.ps_run_options.specs.CommandLine.{view_asked}
+use Rattle.ps_run_options.specs.declared.views.View.{View}
 use Rattle.ps_run_options.specs.declared.options.Exploration.{Exploration}
 use Rattle.ps_run_options.specs.declared.options.Exploration.TheVariants.{ByChance, EachOrder}
 use Rattle.ps_run_options.specs.Sources.{file_of, text_of as program_text}
@@ -16,9 +18,9 @@ use Rattle.ps_vault.specs.Reports.{Bounds, IsWithin}
 
 -- what the words ask for of a run; plain: whether over memory that is never collected, whatever the
 -- space; streamed: whether printed bytes may go out while it goes on; places: whether the places of
--- errors are told; explored: which runs, where it isn't a single one; at: behind how many steps of a
--- given schedule the state is told, if it is; output, entries: the most bytes that it may print, and
--- the most entries of its schedule, if there is a bound
+-- errors are told; explored: which runs, where it isn't a single one; at: what is told of the run
+-- under a schedule that is given, in place of what it prints; output, entries: the most bytes that it
+-- may print, and the most entries of its schedule, if there is a bound
 pub record Asked : Type 0 where
   pub space : ℕ
   pub steps : ℕ
@@ -28,7 +30,7 @@ pub record Asked : Type 0 where
   pub places : Bool
   pub stats : Bool
   pub explored : Option Exploration
-  pub at : Option ℕ
+  pub at : Option View
   pub output : Option ℕ
   pub entries : Option ℕ
 
@@ -47,7 +49,7 @@ AreAsked words asked = (asked.space ≡ unwrap_or (size_in (codes "space") words
     × IsFlag (codes "stream") words asked.streamed × IsFlag (codes "where") words asked.places
     × IsFlag (codes "stats") words asked.stats
     × (asked.explored ≡ exploration_in words)
-    × (asked.at ≡ size_in (codes "at") words)
+    × (asked.at ≡ view_asked words)
     × (asked.output ≡ size_in (codes "output") words)
     × (asked.entries ≡ size_in (codes "entries") words)
 

@@ -1,5 +1,5 @@
 -- What a run from a command line is, its exit status, and what is written.
-use Rattle.std.specs.Prelude.{◌≡◌, ◌<◌, ◌≤◌, ◌+◌, ◌⊎◌, ◌++◌, ◌-◌, ◌^◌, ⊤, min, unwrap_or, ℕ, Bool, true, false, All, List, [], ◌∷◌, slice_index_or, Option, Some, None, IfSome, IsSome, map, option_map, option_and_then, length, codes}
+use Rattle.std.specs.Prelude.{◌≡◌, ◌<◌, ◌≤◌, ◌+◌, ◌⊎◌, ◌++◌, ◌-◌, ◌^◌, ⊤, drop, min, take, unwrap_or, ℕ, Bool, true, false, All, List, [], ◌∷◌, slice_index_or, Option, Some, None, IfSome, IsSome, map, option_map, option_and_then, length, codes}
 use Rattle.std.specs.Option.{option_or}
 use Rattle.std.specs.Fmt.{decimal}
 use Rattle.std.specs.Io.KnownBytes.{Appends}
@@ -12,6 +12,9 @@ use Rattle.ps_ops_state.specs.Acts as acts
 use Rattle.ps_mem.specs.Heap.{Space}
 use Rattle.ps_run_options.specs.declared.options.Exploration.TheVariants.{ByChance, EachOrder}
 use Rattle.ps_run_options.specs.declared.options.OrderBounds.{OrderBounds}
+use Rattle.ps_run_options.specs.declared.views.View.{View}
+use Rattle.ps_run_options.specs.declared.views.View.TheVariants.{State, Steps}
+use Rattle.ps_run_options.specs.Views.{last_step}
 use Rattle.ps_run_schedules.specs.Texts.{AreEntries, IsBadAt, text_of}
 use Rattle.ps_places.specs.declared.origins.Origin.{Origin}
 use Rattle.ps_states.specs.States.{state_text}
@@ -22,6 +25,7 @@ use Rattle.ps_vault.specs.Order.{InOrder}
 use Rattle.ps_vault.specs.Reports.{IsBounded, IsReplayOf, IsRunIn, IsUncollected, UnderPart, WithBudget, are_ordinary}
 use Rattle.ps_vault.specs.Screens.{AppendsPart}
 use Rattle.ps_run.specs.Orders.{AreOrders, Orders, order_lines, report_of}
+use Rattle.ps_walks.specs.StepLines.{AreStepLines}
 use Rattle.ps_walks.specs.Walks.{world_behind}
 use Rattle.ps_run.specs.Telling.{Tells, Told}
 use Rattle.ps_run.specs.declared.files.ReadFault.{ReadFault}
@@ -32,7 +36,7 @@ pub use Rattle.ps_run.specs.Lines.{status_of, number_of, line_of, number_line, l
 pub use Rattle.ps_run.specs.Lines.{unwritten_line, count_lines, counts_of, untold_line, told_of}
 pub use Rattle.ps_run.specs.Lines.{ArePlaces, reason_of, status_for, unread, reason_line}
 pub use Rattle.ps_run.specs.Lines.{lines_for, unread_lines, bad_line, ending_lines, past_end_line}
-pub use Rattle.ps_run.specs.Lines.{no_state_line}
+pub use Rattle.ps_run.specs.Lines.{too_large_line, outcome_text}
 pub use Rattle.ps_run.specs.Asked.{Asked, most_output, most_entries, AreAsked, most_asked}
 pub use Rattle.ps_run.specs.Asked.{space_of, Names, names_in, config_in, asked_of, most_endings}
 pub use Rattle.ps_run.specs.Asked.{records_in, records_of, names_of, AreOutOfRange}
@@ -222,7 +226,17 @@ AreWritten recorded runs endings also told outputs =
     ⊎ ((told ≡ agreement endings) × AreRecorded outputs.files_new recorded endings (length endings)
     × Tells outputs.err_old outputs.err_new (ending_lines runs (length endings) ++ also))))
 
--- ---- a state
+-- ---- a state, or steps
+
+-- the text of what is to be told of the run under this schedule. Origins: where tokens begin that
+-- made objects
+abbrev pub IsViewOf : (file program : List ℕ) → (given : List Entry) → View → (text : List ℕ) → Type 0
+IsViewOf file program given (State step) text = (origins : List Origin) × (text ≡ state_text
+    (record { file = file; program = program; origins = origins })
+    (world_behind program given step) step (min (count_of given) (2 ^ 64 - 1)))
+IsViewOf file program given (Steps first last) text = AreStepLines file (first - 1)
+    (world_behind program given (first - 1))
+    (take (last - (first - 1)) (drop (first - 1) (moves given))) text
 
 -- it took the place of what a run prints: the output took all of it and was flushed, and nothing
 -- was told; or a part of it is lost. No file has changed
@@ -234,12 +248,12 @@ IsShown text told outputs = IsLost text told outputs
 
 -- ---- faults
 
--- the schedule has fewer steps than those behind which the state is to be told: that is told
-abbrev pub IsPastEnd : Contents → Names → (at : Option ℕ) → (err_old err_new : Told) → Type 0
+-- the schedule has fewer steps than those of which something is to be told: that is told
+abbrev pub IsPastEnd : Contents → Names → (at : Option View) → (err_old err_new : Told) → Type 0
 IsPastEnd contents names None err_old err_new = ⊥
-IsPastEnd contents names (Some step) err_old err_new = (given : List Entry)
-    × IsGiven contents names.replayed (Some given) × (count_of given < step)
-    × Tells err_old err_new (past_end_line step (count_of given))
+IsPastEnd contents names (Some view) err_old err_new = (given : List Entry)
+    × IsGiven contents names.replayed (Some given) × (count_of given < last_step view)
+    × Tells err_old err_new (past_end_line (last_step view) (count_of given))
 
 -- a program's bytes are more than one may have
 abbrev pub IsTooLong : (known : Option (List ℕ)) → Type 0
@@ -335,35 +349,34 @@ module _ (asks : world.Status → Around → Scene → acts.Asked) (names : Name
     pub schedule : List Entry
     pub part : AppendsPart outputs.out_old outputs.out_new (worlds.printed program schedule)
 
-  -- the state behind so many steps of the schedule that is named was written, as of a world of the
-  -- program that was never collected. Origins: where tokens begin that made objects
-  pub record IsStateWritten (told : Status) (outputs : Outputs) : Type 0 where
+  -- a state, or steps, of the run under the schedule that is named were written, as of worlds of the
+  -- program that were never collected
+  pub record IsViewWritten (told : Status) (outputs : Outputs) : Type 0 where
     pub asked : Asked
     pub is_asked : IsAsked asked
-    pub step : ℕ
-    pub is_at : asked.at ≡ Some step
+    pub view : View
+    pub is_at : asked.at ≡ Some view
     pub program : List ℕ
     pub is_program : IsProgramIn outputs.files_old names program
     pub given : List Entry
     pub is_given : IsGiven outputs.files_old names.replayed (Some given)
-    pub within : step ≤ count_of given
-    pub origins : List Origin
-    pub written : IsShown (state_text
-        (record { file = program_name names; program = program; origins = origins })
-        (world_behind program given step) step (min (count_of given) (2 ^ 64 - 1))) told outputs
+    pub within : last_step view ≤ count_of given
+    pub text : List ℕ
+    pub is_text : IsViewOf (program_name names) program given view text
+    pub written : IsShown text told outputs
 
   -- the run of that schedule can't be made again in memory that is never collected: that is told
-  pub record IsStateUntold (told : Status) (outputs : Outputs) : Type 0 where
+  pub record IsViewUntold (told : Status) (outputs : Outputs) : Type 0 where
     pub asked : Asked
     pub is_asked : IsAsked asked
     pub is_at : IsSome asked.at
     pub is_memory : told ≡ status.Memory
     pub printed : outputs.out_new ≡ outputs.out_old
     pub files : outputs.files_new ≡ outputs.files_old
-    pub tells : Tells outputs.err_old outputs.err_new no_state_line
+    pub tells : Tells outputs.err_old outputs.err_new too_large_line
 
   -- a fault of the words or a file, or want of memory before the end of a run: nothing is written,
-  -- but what was streamed; else a run, or many, or the state of one. IsFault: of the words or a file
+  -- but what was streamed; else a run, or many, or a view of one. IsFault: of the words or a file
   abbrev pub IsDriven : (IsFault : Type 0) → (told : Status) → Outputs → Type 0
   IsDriven IsFault told outputs =
       ((told ≡ status.Usage) × (outputs.out_new ≡ outputs.out_old)
@@ -373,4 +386,4 @@ module _ (asks : world.Status → Around → Scene → acts.Asked) (names : Name
       × Tells outputs.err_old outputs.err_new (line_of status.Memory))
       ⊎ (IsRunWritten told outputs
       ⊎ (AreRunsWritten told outputs ⊎ (AreOrdersWritten told outputs
-      ⊎ (IsStateWritten told outputs ⊎ IsStateUntold told outputs)))))
+      ⊎ (IsViewWritten told outputs ⊎ IsViewUntold told outputs)))))

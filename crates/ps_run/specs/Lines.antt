@@ -41,6 +41,13 @@ line_of status.AllWaiting = codes "dpsrun: all contexts wait\n"
 line_of status.StepsOut = codes "dpsrun: steps used up\n"
 line_of status.Memory = codes "dpsrun: out of memory\n"
 
+abbrev pub outcome_text : Outcome → List ℕ
+outcome_text Finished = codes "finished"
+outcome_text Faulted = codes "finished with errors"
+outcome_text AllWaiting = codes "all contexts wait"
+outcome_text StepsOut = codes "steps used up"
+outcome_text Memory = codes "out of memory"
+
 -- ---- what is written
 
 -- a line with a label and a number
@@ -133,5 +140,5 @@ past_end_line step steps = codes "dpsrun: no step " ++ (decimal step
     ++ number_line (codes " in a schedule of ") steps)
 
 -- the line that it has of a state of a run that isn't made again
-abbrev pub no_state_line : List ℕ
-no_state_line = codes "dpsrun: no state: the run is too large to be made again\n"
+abbrev pub too_large_line : List ℕ
+too_large_line = codes "dpsrun: the run is too large to be made again\n"

@@ -7,12 +7,9 @@ use Rattle.ps_cuts.specs.Runs.{EndsAsTold, IsToldOf}
 use Rattle.ps_run_options.specs.declared.options.OrderBounds.{OrderBounds}
 use Rattle.ps_run_schedules.specs.Keeping.{Kept}
 use Rattle.ps_searches.specs.declared.found.Told.{Told}
-use Rattle.ps_vault.specs.declared.reports.Outcome.{Outcome}
-use Rattle.ps_vault.specs.declared.reports.Outcome.TheVariants as outcome
 use Rattle.ps_vault.specs.declared.reports.Report.{Report}
 use Rattle.ps_views.specs.declared.orders.EndingLine.{EndingLine}
-use Rattle.ps_views.specs.declared.orders.Outcome.{Outcome as Called}
-use Rattle.ps_views.specs.declared.orders.Outcome.TheVariants as called
+use Rattle.ps_run.specs.Lines.{outcome_text}
 use Rattle.ps_views.specs.Orders.{ending_line, reach_line}
 
 -- their endings, each with an order that ends so, which of them are all known, and how many runs
@@ -48,28 +45,24 @@ report_of told = record {
 
 -- ---- the lines
 
-abbrev pub called_as : Outcome → Called
-called_as outcome.Finished = called.Finished
-called_as outcome.Faulted = called.Faulted
-called_as outcome.AllWaiting = called.AllWaiting
-called_as outcome.StepsOut = called.StepsOut
-called_as outcome.Memory = called.Memory
-
 -- what is told of an ending, by its number; steps up to 18,446,744,073,709,551,615
 abbrev pub told_as : (number : ℕ) → Ending × Told Kept → EndingLine
 told_as number told = record {
   number = number;
   cuts = told.1.price;
   steps = min (count_of told.1.schedule.items) (2 ^ 64 - 1);
-  outcome = called_as told.0.outcome;
   printed = length told.0.printed.items;
 }
+
+-- its line
+abbrev pub line_told : (number : ℕ) → Ending × Told Kept → List ℕ
+line_told number told = ending_line (told_as number told) (outcome_text told.0.outcome)
 
 -- a line each, by numbers behind that of another
 abbrev pub lines_behind : (last : ℕ) → List (Ending × Told Kept) → List ℕ
 lines_behind last [] = []
 lines_behind last (told ∷ rest) =
-    ending_line (told_as (last + 1) told) ++ lines_behind (last + 1) rest
+    line_told (last + 1) told ++ lines_behind (last + 1) rest
 
 -- which orders were explored, and how they ended
 abbrev pub order_lines : OrderBounds → Orders → List ℕ

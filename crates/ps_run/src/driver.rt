@@ -1,7 +1,7 @@
 //! A run from the words of a command line to an exit status.
 
 ghost use Rattle.std.specs.Prelude.{◌≡◌, ◌≢◌, ◌⊎◌, [], ℕ, List, Option, true, false, map, IfSome, None, codes, ◌≤◌, is_some};
-ghost use Rattle.ps_run_options.specs.CommandLine.{IsExploration, faults_in, named_in, size_in};
+ghost use Rattle.ps_run_options.specs.CommandLine.{IsExploration, faults_in, named_in, view_asked};
 ghost use Rattle.ps_vault.specs.Reports.{IsWithin};
 ghost use Rattle.ps_run.specs.Driving as driving;
 ghost use Rattle.ps_run.specs.Driving.{AreAsked, AreOutOfRange, IsDriven, IsFileFault, IsPastEnd, IsRecordName, IsUnread, asked_of, config_in, names_in, names_of, records_of};
@@ -16,11 +16,11 @@ use crate::outputs::{Flushing, Telling};
 use crate::outside::Outside;
 use crate::places::{again_of, places_in};
 use crate::reading::{read_given, read_program};
-use crate::states::show_state;
 use crate::statuses::{Status, end, number_of};
 use crate::streams::{output_of, screen_of};
 use crate::systems::System;
 use crate::telling::refuse;
+use crate::views::show_view;
 use ps_ctx::deeds::Deeds;
 use ps_ctx::makers::Makers;
 use ps_run_options::{Exploration, Options, parse};
@@ -100,7 +100,7 @@ pub fn drive<
         ⊎ (AreOutOfRange (map (λ word. word.now) words.now)
         ⊎ IsPastEnd (F.contents outside.old.files)
         (names_in (map (λ word. word.now) words.now))
-        (size_in (codes "at") (map (λ word. word.now) words.now))
+        (view_asked (map (λ word. word.now) words.now))
         (X.told outside.old.err) (X.told outside.new.err)))) told
         (record {
           out_old = W.contents out;
@@ -168,7 +168,7 @@ fn carry_out<
         }) }
 {
     if options.at.is_some() {
-        let status = show_state(system, makers, options, &mut out, outside);
+        let status = show_view(system, makers, options, &mut out, outside);
         return (status, out);
     }
     match options.explore {

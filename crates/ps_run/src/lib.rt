@@ -47,11 +47,11 @@ mod outside;
 mod places;
 mod progress;
 mod reading;
-mod states;
 mod statuses;
 mod streams;
 mod systems;
 mod telling;
+mod views;
 mod writing;
 
 pub use driver::drive;

@@ -16,7 +16,7 @@ use crate::outputs::{Flushing, Telling};
 use crate::outside::Outside;
 use crate::progress::Progress;
 use crate::reading::read_program;
-use crate::statuses::{Status, end};
+use crate::statuses::{Status, called, end};
 use crate::systems::System;
 use ps_ctx::deeds::Deeds;
 use ps_ctx::makers::Makers;
@@ -25,7 +25,7 @@ use ps_run_options::{Exploration, Options, OrderBounds};
 use ps_run_schedules::{Schedule, steps_of};
 use ps_searches::{Bounds, Found, Told, Watcher};
 use ps_step_interpreter::interprets::Interpret;
-use ps_vault::{Outcome, Report, Setup, Task};
+use ps_vault::{Report, Setup, Task};
 use ps_views::{EndingLine, Reach, append_ending, append_reach};
 use std::alloc::{AllocError, Global};
 
@@ -45,19 +45,6 @@ impl<P: Progress + Drop> Watcher for Shown<P> {
     }
 }
 
-/// What an outcome is called.
-fn called(outcome: Outcome) -> ps_views::Outcome
-    ensures { result ≡ orders.called_as outcome }
-{
-    match outcome {
-        Outcome::Finished => ps_views::Outcome::Finished,
-        Outcome::Faulted => ps_views::Outcome::Faulted,
-        Outcome::AllWaiting => ps_views::Outcome::AllWaiting,
-        Outcome::StepsOut => ps_views::Outcome::StepsOut,
-        Outcome::Memory => ps_views::Outcome::Memory,
-    }
-}
-
 /// What is told of an ending, which is behind so many others.
 fn told_as(behind: usize, ending: &Ending, told: &Told<Schedule>) -> EndingLine
     requires few { behind < 2 ^ 63 }
@@ -67,7 +54,6 @@ fn told_as(behind: usize, ending: &Ending, told: &Told<Schedule>) -> EndingLine
         number: behind as u64 + 1,
         cuts: told.price,
         steps: steps_of(told.schedule.entries()),
-        outcome: called(ending.outcome),
         printed: ending.printed.len() as u64,
     }
 }
@@ -81,7 +67,7 @@ fn append_endings(found: &Found<Ending, Schedule>, to: &mut Vec<u8>) -> Result<(
         let Some((ending, told)) = found.endings.get_index(place) else {
             unreachable!()
         };
-        append_ending(&told_as(place, ending, told), to)?;
+        append_ending(&told_as(place, ending, told), called(ending.outcome), to)?;
     }
     Ok(())
 }

@@ -39,6 +39,19 @@ pub(crate) fn status_of(outcome: Outcome) -> Status
     }
 }
 
+/// What an outcome is called.
+pub(crate) fn called(outcome: Outcome) -> &'static [u8]
+    ensures { result.now ≡ driving.outcome_text outcome }
+{
+    match outcome {
+        Outcome::Finished => b"finished",
+        Outcome::Faulted => b"finished with errors",
+        Outcome::AllWaiting => b"all contexts wait",
+        Outcome::StepsOut => b"steps used up",
+        Outcome::Memory => b"out of memory",
+    }
+}
+
 /// Tells the line that belongs to a status, where it has one.
 pub(crate) fn end<X: Telling>(err: &mut X, status: Status) -> Status
     ensures status { result ≡ status }

@@ -7,6 +7,8 @@ use Rattle.std.specs.Str.Parse.{IsNumeral, digits_value, without_leading_plus}
 use Rattle.clap.specs.Kinds.{Kinds, or_else}
 use Rattle.clap.specs.Words.{App, Rule, Text, new_app, new_rule, with_rule, matches_of, first_of, one_of, fault_of}
 use Rattle.ps_run_options.specs.Sizes.{is_within, size_of}
+use Rattle.ps_run_options.specs.Views.{is_viewed, view_in}
+use Rattle.ps_run_options.specs.declared.views.View.{View}
 use Rattle.ps_run_options.specs.declared.options.Exploration.{Exploration}
 use Rattle.ps_run_options.specs.declared.options.Exploration.TheVariants.{ByChance, EachOrder}
 use Rattle.clap.specs.declared.builder.action.ArgAction.TheVariants.{SetTrue}
@@ -165,7 +167,7 @@ are_sized given = is_sized 4096 1048576 (given (codes "space"))
     && is_sized 1 4294967295 (given (codes "steps"))
     && is_sized 0 4294967295 (given (codes "output"))
     && is_sized 1 4294967295 (given (codes "entries"))
-    && is_sized 0 4294967295 (given (codes "at"))
+    && is_viewed (given (codes "at"))
 
 -- so many schedules, or all orders; the bounds of these
 abbrev pub are_explored : (given : Text → Option Text) → Bool
@@ -205,6 +207,10 @@ IsNumber name words number =
 -- the size of an option in such words, if it stands there
 abbrev pub size_in : (name : Text) → List Text → Option ℕ
 size_in name words = option_and_then size_of (named_in name words)
+
+-- what is to be told of a run in place of what it prints, if anything is
+abbrev pub view_asked : List Text → Option View
+view_asked words = option_and_then view_in (named_in (codes "at") words)
 
 -- the numbers of a run
 pub record Numbers : Type 0 where

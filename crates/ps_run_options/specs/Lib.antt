@@ -1,3 +1,4 @@
 pub mod CommandLine
 pub mod Sizes
 pub mod Sources
+pub mod Views

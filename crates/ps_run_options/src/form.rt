@@ -124,8 +124,8 @@ fn with_schedules<'a>(alloc: Global, command: Command<'a>) -> Result<Command<'a>
         alloc,
         "at",
         "N",
-        "write the state behind N steps of that schedule in place of what is printed; only with \
-            --replay",
+        "write the state behind N steps of that schedule, or for N..M its steps N to M, a line each, \
+            in place of what is printed; only with --replay",
     );
     with_explored(alloc, command.arg(record)?.arg(replay)?.arg(at)?)
 }

@@ -10,9 +10,12 @@
 #![tactic(auto)]
 
 mod form;
+mod misuses;
 mod options;
 mod sizes;
+mod views;
 
 pub use options::{
     Exploration, Options, OrderBounds, ProgramSource, VERSION, no_text, overwritten, parse,
 };
+pub use views::View;

@@ -7,9 +7,12 @@ ghost use Rattle.clap.specs.Words.{app_of, rule_of, with_rule, first_value, foun
 ghost use Rattle.ps_run_options.specs.CommandLine as spec;
 ghost use Rattle.ps_run_options.specs.Sizes.{size_of};
 ghost use Rattle.ps_run_options.specs.Sources.{file_of, text_of};
+ghost use Rattle.ps_run_options.specs.Views.{is_viewed, view_in as spec_view_in};
 
 use crate::form::command;
+use crate::misuses::{OVERWRITTEN, explores_all, is_overwritten, misused};
 use crate::sizes::{SizeFault, size_within};
+use crate::views::{View, view_in};
 use clap::error::ErrorKind;
 use clap::{ArgMatches, Command, Error};
 use std::alloc::{AllocError, Global};
@@ -23,35 +26,6 @@ const NO_SOURCE: &str = "the following required arguments were not provided:\n  
 
 /// What is told of two programs.
 const TWO_SOURCES: &str = "the argument '<FILE>' cannot be used with '-e <TEXT>'";
-
-/// What is told of a schedule that is given beside what it can't be used with.
-const REPLAY_EXCLUDED: &str = "the argument '--replay <FILE>' cannot be used with '--plain', \
-    '--record <FILE>', '--explore <N>' or '--entries <N>'";
-
-/// What is told of places that are asked for beside many runs.
-const WHERE_EXCLUDED: &str = "the argument '--where' cannot be used with '--explore <N>'";
-
-/// What is told of a state that is asked for without a schedule.
-const AT_ALONE: &str = "the argument '--at <N>' cannot be used without '--replay <FILE>'";
-
-/// What is told of a state that is asked for beside what is told of a whole run.
-const AT_EXCLUDED: &str = "the argument '--at <N>' cannot be used with '--stream', '--where', \
-    '--stats' or '--output <N>'";
-
-/// What is told of a stream that is asked for beside many runs.
-const STREAM_EXCLUDED: &str = "the argument '--stream' cannot be used with '--explore <N>'";
-
-/// What is told of all orders without a bound on their cuts.
-const CUTS_MISSED: &str = "the argument '--explore all' can only be used with '--cuts <N>'";
-
-/// What is told of a bound on cuts without all orders.
-const CUTS_ALONE: &str = "the argument '--cuts <N>' can only be used with '--explore all'";
-
-/// What is told of a bound on runs without all orders.
-const RUNS_ALONE: &str = "the argument '--runs <N>' can only be used with '--explore all'";
-
-/// What is told of a record that would take the place of the program.
-const OVERWRITTEN: &str = "the argument '--record <FILE>' would write over the program";
 
 /// What is told of words that are no text.
 const NO_TEXT: &str = "invalid UTF-8 was detected in one or more arguments";
@@ -114,9 +88,9 @@ pub struct Options<'a> {
     /// The name of the file whose schedule is followed, if one is. Nothing is recorded then, and
     /// nothing is explored.
     pub replay_file: Option<&'a str>,
-    /// Behind how many steps of that schedule the state of the run is told, if it is. Then nothing
+    /// Which state or which steps of the run under that schedule are told, if any are. Then nothing
     /// else is.
-    pub at: Option<u32>,
+    pub at: Option<View>,
     /// Where the program is.
     pub source: ProgramSource<'a>,
 }
@@ -143,106 +117,8 @@ struct Sizes {
     steps: u32,
     output: Option<u32>,
     entries: Option<u32>,
-    at: Option<u32>,
+    at: Option<View>,
     explore: Option<Exploration>,
-}
-
-/// Whether a flag stands in the words of the matches.
-fn is_set(matches: &ArgMatches<'_>, name: &str) -> bool
-    ensures { result ≡ spec.is_set (first_value (found_of matches.now) name.now) }
-{
-    match matches.get_str(name) {
-        Some(text) => text == "true",
-        None => false,
-    }
-}
-
-/// Whether the words of the matches say how a run is made, or record it.
-fn makes_otherwise(matches: &ArgMatches<'_>) -> bool
-    ensures { result ≡ spec.makes_otherwise (first_value (found_of matches.now)) }
-{
-    is_set(matches, "plain")
-        || matches.get_str("record").is_some()
-        || matches.get_str("explore").is_some()
-        || matches.get_str("entries").is_some()
-}
-
-/// Whether the words of the matches ask for what is told of a whole run, or bound it.
-fn tells_whole(matches: &ArgMatches<'_>) -> bool
-    ensures { result ≡ spec.tells_whole (first_value (found_of matches.now)) }
-{
-    is_set(matches, "stream")
-        || is_set(matches, "where")
-        || is_set(matches, "stats")
-        || matches.get_str("output").is_some()
-}
-
-/// Whether all orders are asked for in the words of the matches.
-fn explores_all(matches: &ArgMatches<'_>) -> bool
-    ensures { result ≡ spec.is_all (first_value (found_of matches.now) (codes "explore")) }
-{
-    match matches.get_str("explore") {
-        Some(text) => text == "all",
-        None => false,
-    }
-}
-
-/// What is told where all orders have no bound on their cuts in the words of the matches, or a bound
-/// stands there without them.
-fn missed(matches: &ArgMatches<'_>) -> Option<&'static str>
-    ensures { is_some result ≡ spec.misses (first_value (found_of matches.now)) }
-{
-    let bounds_cuts = matches.get_str("cuts").is_some();
-    if explores_all(matches) {
-        return if bounds_cuts { None } else { Some(CUTS_MISSED) };
-    }
-    if bounds_cuts {
-        return Some(CUTS_ALONE);
-    }
-    if matches.get_str("runs").is_some() {
-        return Some(RUNS_ALONE);
-    }
-    None
-}
-
-/// What is told where something is given in the words of the matches beside what it can't be used
-/// with.
-fn excluded(matches: &ArgMatches<'_>) -> Option<&'static str>
-    ensures { is_some result ≡ spec.excludes (first_value (found_of matches.now)) }
-{
-    let explores = matches.get_str("explore").is_some();
-    let replays = matches.get_str("replay").is_some();
-    if replays && makes_otherwise(matches) {
-        return Some(REPLAY_EXCLUDED);
-    }
-    if is_set(matches, "stream") && explores {
-        return Some(STREAM_EXCLUDED);
-    }
-    if is_set(matches, "where") && explores {
-        return Some(WHERE_EXCLUDED);
-    }
-    if matches.get_str("at").is_none() {
-        return None;
-    }
-    if !replays {
-        return Some(AT_ALONE);
-    }
-    if tells_whole(matches) {
-        return Some(AT_EXCLUDED);
-    }
-    None
-}
-
-/// What is told where something in the words of the matches can't be used with what stands there, or
-/// without what doesn't.
-fn misused(matches: &ArgMatches<'_>) -> Option<&'static str>
-    ensures { is_some result ≡ (spec.excludes (first_value (found_of matches.now))
-        || spec.misses (first_value (found_of matches.now))) }
-{
-    match excluded(matches) {
-        Some(text) => Some(text),
-        None => missed(matches),
-    }
 }
 
 /// Where the program is, by the words of the matches. Fails where they name none, or two.
@@ -289,9 +165,29 @@ fn sized<'a>(
     let Some(text) = matches.get_str(name) else {
         return Ok(None);
     };
-    match size_within(text, least, most) {
+    match size_within(text.as_bytes(), least, most) {
         Ok(size) => Ok(Some(size)),
         Err(fault) => Err(BadSize { name, text, fault }),
+    }
+}
+
+/// What is asked to be told in the words of the matches, if anything is. Fails where its text asks
+/// for nothing.
+fn viewed<'a>(matches: &ArgMatches<'a>) -> Result<Option<View>, BadSize<'a>>
+    ensures view { IfOk result (λ view. view
+        ≡ option_and_then spec_view_in (first_value (found_of matches.now) (codes "at"))) }
+    ensures is { is_ok result ≡ is_viewed (first_value (found_of matches.now) (codes "at")) }
+{
+    let Some(text) = matches.get_str("at") else {
+        return Ok(None);
+    };
+    match view_in(text.as_bytes()) {
+        Ok(view) => Ok(Some(view)),
+        Err(fault) => Err(BadSize {
+            name: "at",
+            text,
+            fault,
+        }),
     }
 }
 
@@ -340,7 +236,7 @@ fn sizes_of<'a>(matches: &ArgMatches<'a>) -> Result<Sizes, BadSize<'a>>
     ensures entries { IfOk result (λ sizes. sizes.entries
         ≡ option_and_then size_of (first_value (found_of matches.now) (codes "entries"))) }
     ensures at { IfOk result (λ sizes. sizes.at
-        ≡ option_and_then size_of (first_value (found_of matches.now) (codes "at"))) }
+        ≡ option_and_then spec_view_in (first_value (found_of matches.now) (codes "at"))) }
     ensures are { is_ok result ≡ (spec.are_sized (first_value (found_of matches.now))
         && spec.are_explored (first_value (found_of matches.now))) }
     ensures explore { IfOk result
@@ -351,7 +247,7 @@ fn sizes_of<'a>(matches: &ArgMatches<'a>) -> Result<Sizes, BadSize<'a>>
     let steps = sized(matches, "steps", 1, u32::MAX)?;
     let output = sized(matches, "output", 0, u32::MAX)?;
     let entries = sized(matches, "entries", 1, u32::MAX)?;
-    let at = sized(matches, "at", 0, u32::MAX)?;
+    let at = viewed(matches)?;
     let explore = exploration_of(matches)?;
     Ok(Sizes {
         space: space.unwrap_or(65536),
@@ -370,52 +266,6 @@ fn bad_size(alloc: Global, line: &mut Command<'_>, bad: BadSize<'_>) -> Result<E
     let BadSize { name, text, fault } = bad;
     let told = format!(in alloc; "invalid value '{text}' for '--{name} <N>': {fault}")?;
     line.error(ErrorKind::ValueValidation, told.as_str())
-}
-
-/// Whether a text is a number in decimal, of any size.
-fn is_number(text: &[u8]) -> bool
-    ensures { result ≡ spec.is_number text.now }
-{
-    for byte in text {
-        if !byte.is_ascii_digit() {
-            return false;
-        }
-    }
-    !text.is_empty()
-}
-
-/// Whether a text is a full stop and a number.
-fn is_extension(text: &[u8]) -> bool
-    ensures { result ≡ spec.is_extension text.now }
-{
-    match text {
-        [b'.', number @ ..] => is_number(number),
-        _ => false,
-    }
-}
-
-/// Whether a name is that of the record of an ending, where such names begin with `prefix`.
-fn is_numbered(name: &str, prefix: &str) -> bool
-    ensures { result ≡ spec.is_numbered prefix.now name.now }
-{
-    let (name, prefix) = (name.as_bytes(), prefix.as_bytes());
-    name.starts_with(prefix) && is_extension(&name[prefix.len()..])
-}
-
-/// Whether a record that is asked for in the words of the matches takes the place of the program.
-fn is_overwritten(matches: &ArgMatches<'_>) -> bool
-    ensures { result ≡ spec.overwrites (first_value (found_of matches.now) (codes "record"))
-        (first_value (found_of matches.now) (codes "explore"))
-        (first_value (found_of matches.now) (codes "FILE")) }
-{
-    let (Some(record), Some(file)) = (matches.get_str("record"), matches.get_str("FILE")) else {
-        return false;
-    };
-    if matches.get_str("explore").is_some() {
-        is_numbered(file, record)
-    } else {
-        file == record
-    }
 }
 
 /// The error for words of a command line that are no text. Fails for want of memory.
@@ -473,7 +323,7 @@ pub fn parse<'a>(alloc: Global, words: &'a [&'a str]) -> Result<Options<'a>, Err
     ensures entries { IfOk result (λ options. options.entries
         ≡ spec.size_in (codes "entries") (map (λ word. word.now) words.entry.now)) }
     ensures at { IfOk result (λ options. options.at
-        ≡ spec.size_in (codes "at") (map (λ word. word.now) words.entry.now)) }
+        ≡ spec.view_asked (map (λ word. word.now) words.entry.now)) }
     ensures at_given { IfOk result (λ options. is_some options.at ≡ true
         → is_some options.replay_file ≡ true) }
     ensures explore_range { IfOk result (λ options. IfSome options.explore spec.IsExploration) }

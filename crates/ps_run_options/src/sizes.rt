@@ -120,12 +120,12 @@ fn size_of(text: &[u8]) -> Result<u64, SizeFault>
 }
 
 /// The size that a text tells. Fails where it tells none from `least` to `most`.
-pub(crate) fn size_within(text: &str, least: u32, most: u32) -> Result<u32, SizeFault>
+pub(crate) fn size_within(text: &[u8], least: u32, most: u32) -> Result<u32, SizeFault>
     ensures size { IfOk result (λ size. spec.size_of text.now ≡ Some size) }
     ensures within { IfOk result (λ size. (least ≤ size) × (size ≤ most)) }
     ensures is { is_ok result ≡ spec.is_within least most (spec.size_of text.now) }
 {
-    let size = size_of(text.as_bytes())?;
+    let size = size_of(text)?;
     if size < u64::from(least) || u64::from(most) < size {
         return Err(SizeFault::Outside { size, least, most });
     }

@@ -6,9 +6,10 @@ ghost use Rattle.ps_timelines.specs.Arrows as arrows;
 ghost use Rattle.ps_timelines.specs.Arrows.{arrow_head, arrow_key, arrow_text, arrows_text, shaft_text};
 ghost use Rattle.ps_timelines.specs.Arrows.{side_text, step_text};
 
-use crate::bytes::{append, append_between};
+use crate::bytes::append_between;
 use crate::lanes::{FIRST_LANE, LANES_LEFT, NEXT_LANE, append_place, place};
 use crate::levels::LANE_HEIGHT;
+use ps_views::append;
 use std::alloc::AllocError;
 
 /// How many arrows of a kind are drawn at most.

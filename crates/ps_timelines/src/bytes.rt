@@ -3,25 +3,8 @@
 ghost use Rattle.std.specs.Prelude.{◌≡◌, ◌++◌, take, length, OnOk};
 ghost use Rattle.ps_timelines.specs.Texts.{escaped, escaped_byte, number_text};
 
-use itoa::{Buffer, Integer};
+use ps_views::{append, append_number};
 use std::alloc::AllocError;
-
-/// Appends bytes as they are. Fails where a growth is refused; what stood before stays.
-pub(crate) fn append(bytes: &[u8], to: &mut Vec<u8>) -> Result<(), AllocError>
-    ensures appended { OnOk result (to.new.items ≡ to.old.items ++ bytes.now) }
-    ensures front { take (length to.old.items) to.new.items ≡ to.old.items }
-{
-    to.extend_from_slice(bytes)
-}
-
-/// Appends a number in decimal. Fails where a growth is refused; what stood before stays.
-pub(crate) fn append_number<I: Integer>(number: I, to: &mut Vec<u8>) -> Result<(), AllocError>
-    ensures appended { OnOk result (to.new.items ≡ to.old.items ++ I.text number) }
-    ensures front { take (length to.old.items) to.new.items ≡ to.old.items }
-{
-    let mut buffer = Buffer::new();
-    to.extend_from_slice(buffer.format(number).as_bytes())
-}
 
 /// Appends a byte of a text as XML has it.
 fn append_escaped_byte(byte: u8, to: &mut Vec<u8>) -> Result<(), AllocError>

@@ -5,9 +5,9 @@ ghost use Rattle.ps_timelines.specs.Keys as keys;
 ghost use Rattle.ps_timelines.specs.Keys.{arrow_row_text, key_text, legend_text, row_text, sample_text};
 
 use crate::arrows::{Relation, append_arrow_key};
-use crate::bytes::append;
 use crate::lanes::append_place;
 use crate::series::{Series, append_series_title, append_series_word};
+use ps_views::append;
 use std::alloc::AllocError;
 
 /// A sample of what a series looks like.

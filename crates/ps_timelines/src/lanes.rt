@@ -7,10 +7,11 @@ ghost use Rattle.ps_timelines.specs.Lanes as lanes;
 ghost use Rattle.ps_timelines.specs.Lanes.{count_text, label_begin, label_text, head_text};
 ghost use Rattle.ps_timelines.specs.Lanes.{lane_text, series_text, all_series_text, name_text, place_text};
 
-use crate::bytes::{append, append_between, append_escaped};
+use crate::bytes::{append_between, append_escaped};
 use crate::columns::Interval;
 use crate::levels::{LaneIntervals, intervals_of, longest_shares, series_levels};
 use crate::series::{ALL_SERIES, Series, append_path};
+use ps_views::append;
 use std::alloc::{AllocError, Global};
 
 /// Where the lanes begin, from the left; where the first does from above, and each next one below.

@@ -9,11 +9,12 @@ ghost use Rattle.ps_timelines.specs.Pictures.{style_text, tick_at, tick_text, ti
 ghost use Rattle.ps_timelines.specs.Pictures.{titled_text};
 
 use crate::arrows::{Arrow, Relation, append_arrows};
-use crate::bytes::{append, append_between, append_escaped};
+use crate::bytes::{append_between, append_escaped};
 use crate::keys::append_legend;
 use crate::lanes::{
     FIRST_LANE, LANES_LEFT, Lane, NEXT_LANE, Scale, append_lane, append_place, place,
 };
+use ps_views::append;
 use std::alloc::{AllocError, Global};
 
 /// What may stand between two ticks, from the least on. At most ten of the last fit a run.

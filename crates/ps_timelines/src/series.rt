@@ -6,7 +6,7 @@ ghost use Rattle.ps_timelines.specs.Series as paths;
 ghost use Rattle.ps_timelines.specs.Series.{edge_text, edges_text, outline_text, path_text};
 ghost use Rattle.ps_timelines.specs.Series.{line_text, path_head, path_tail, shape_text, stroke_text};
 
-use crate::bytes::{append, append_number};
+use ps_views::{append, append_number};
 use std::alloc::AllocError;
 
 /// How wide a lane is.

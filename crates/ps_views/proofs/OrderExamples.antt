@@ -3,7 +3,6 @@ use Rattle.std.proofs.Common.{◌≡◌, refl, [], ◌++◌}
 use Rattle.std.specs.Prelude.{codes}
 use Rattle.std.specs.Fmt.{decimal}
 use Rattle.ps_views.specs.Orders.{counted, ending_line, limit_text, whole_text}
-use Rattle.ps_views.specs.declared.orders.Outcome.TheVariants.{AllWaiting}
 
 -- of one thing there is no s
 one : counted 1 (codes "cut") ≡ decimal 1 ++ codes " cut"
@@ -35,9 +34,8 @@ deadlock : ending_line (record {
   number = 3;
   cuts = 1;
   steps = 25;
-  outcome = AllWaiting;
   printed = 0;
-}) ≡ (codes "ending " ++ (decimal 3 ++ (codes ": " ++ (decimal 1 ++ codes " cut"))))
+}) (codes "all contexts wait") ≡ (codes "ending " ++ (decimal 3 ++ (codes ": " ++ (decimal 1 ++ codes " cut"))))
     ++ ((codes ", " ++ ((decimal 25 ++ codes " steps")
     ++ (codes ", " ++ (codes "all contexts wait" ++ codes ", "))))
     ++ ((decimal 0 ++ codes " bytes") ++ codes "\n"))

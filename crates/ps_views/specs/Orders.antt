@@ -2,9 +2,6 @@
 use Rattle.std.specs.Prelude.{ℕ, ◌==◌, ◌-◌, List, [], ◌++◌, nat_lt, codes, if◌then◌else◌}
 use Rattle.std.specs.Fmt.{decimal}
 use Rattle.ps_views.specs.declared.orders.EndingLine.{EndingLine}
-use Rattle.ps_views.specs.declared.orders.Outcome.{Outcome}
-use Rattle.ps_views.specs.declared.orders.Outcome.TheVariants.{Finished, Faulted, AllWaiting}
-use Rattle.ps_views.specs.declared.orders.Outcome.TheVariants.{StepsOut, Memory}
 use Rattle.ps_views.specs.declared.orders.Reach.{Reach}
 
 -- so many of a thing
@@ -29,24 +26,17 @@ reach_line reach = whole_text reach.below ++ (limit_text reach ++ codes "\n")
 
 -- ---- an ending
 
-abbrev pub outcome_text : Outcome → List ℕ
-outcome_text Finished = codes "finished"
-outcome_text Faulted = codes "finished with errors"
-outcome_text AllWaiting = codes "all contexts wait"
-outcome_text StepsOut = codes "steps used up"
-outcome_text Memory = codes "out of memory"
-
 -- which it is, and the fewest cuts of an order that ends so
 abbrev pub which_text : EndingLine → List ℕ
 which_text told = codes "ending "
     ++ (decimal told.number ++ (codes ": " ++ counted told.cuts (codes "cut")))
 
--- its steps, its outcome and how much was printed
-abbrev pub came_to : EndingLine → List ℕ
-came_to told = codes ", " ++ (counted told.steps (codes "step") ++ (codes ", "
-    ++ (outcome_text told.outcome ++ codes ", ")))
+-- its steps, and what its outcome is called
+abbrev pub came_to : (steps : ℕ) → (outcome : List ℕ) → List ℕ
+came_to steps outcome =
+    codes ", " ++ (counted steps (codes "step") ++ (codes ", " ++ (outcome ++ codes ", ")))
 
 -- ending NUMBER: NUMBER cuts, NUMBER steps, OUTCOME, NUMBER bytes
-unfoldable pub ending_line : EndingLine → List ℕ
-ending_line told = which_text told
-    ++ (came_to told ++ (counted told.printed (codes "byte") ++ codes "\n"))
+unfoldable pub ending_line : EndingLine → (outcome : List ℕ) → List ℕ
+ending_line told outcome = which_text told
+    ++ (came_to told.steps outcome ++ (counted told.printed (codes "byte") ++ codes "\n"))

@@ -81,8 +81,10 @@ pub(crate) fn append_repeated(byte: u8, count: usize, to: &mut Vec<u8>) -> Resul
     Ok(())
 }
 
-/// Appends bytes as they are. Fails where a growth is refused; what stood before stays.
-pub(crate) fn append(bytes: &[u8], to: &mut Vec<u8>) -> Result<(), AllocError>
+/// Appends bytes as they are.
+///
+/// `AllocError`: a growth was refused; what stood before stays.
+pub fn append(bytes: &[u8], to: &mut Vec<u8>) -> Result<(), AllocError>
     ensures appended { OnOk result (to.new.items ≡ to.old.items ++ bytes.now) }
     ensures front { take (length to.old.items) to.new.items ≡ to.old.items }
     ensures capacity { vec_capacity to.old ≤ vec_capacity to.new }
@@ -91,8 +93,10 @@ pub(crate) fn append(bytes: &[u8], to: &mut Vec<u8>) -> Result<(), AllocError>
     to.extend_from_slice(bytes)
 }
 
-/// Appends a number in decimal. Fails where a growth is refused; what stood before stays.
-pub(crate) fn append_number<I: Integer>(number: I, to: &mut Vec<u8>) -> Result<(), AllocError>
+/// Appends a number in decimal.
+///
+/// `AllocError`: a growth was refused; what stood before stays.
+pub fn append_number<I: Integer>(number: I, to: &mut Vec<u8>) -> Result<(), AllocError>
     ensures appended { OnOk result (to.new.items ≡ to.old.items ++ I.text number) }
     ensures front { take (length to.old.items) to.new.items ≡ to.old.items }
     ensures capacity { vec_capacity to.old ≤ vec_capacity to.new }

@@ -20,10 +20,11 @@ mod sources;
 mod states;
 mod steps;
 
+pub use bytes::{append, append_number};
 pub use cuts::{CutLine, Turn, append_cut_line};
 pub use frames::{Coming, FrameLine, append_frame};
 pub use lines::append_label;
-pub use orders::{EndingLine, Outcome, Reach, append_ending, append_reach};
+pub use orders::{EndingLine, Reach, append_ending, append_reach};
 pub use places::{Caller, ErrorPlace, Spot, append_place, spot_at};
 pub use states::{
     ContextHead, StateHead, StatusLine, append_context, append_dictionary, append_head,

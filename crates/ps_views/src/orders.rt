@@ -7,19 +7,6 @@ ghost use Rattle.ps_views.specs.Orders as spec;
 use crate::bytes::{append, append_number};
 use std::alloc::AllocError;
 
-/// How a run ended.
-#[derive(Clone, Copy, Debug, PartialEq, Eq)]
-pub enum Outcome {
-    /// Every context finished, and no error was printed.
-    Finished,
-    /// The same, and one was.
-    Faulted,
-    /// A context is left, and all wait.
-    AllWaiting,
-    StepsOut,
-    Memory,
-}
-
 /// One way in which runs ended.
 #[derive(Clone, Copy, Debug, PartialEq, Eq)]
 pub struct EndingLine {
@@ -28,7 +15,6 @@ pub struct EndingLine {
     /// How many cuts and steps the order has that is told of it.
     pub cuts: u32,
     pub steps: u64,
-    pub outcome: Outcome,
     /// How many bytes were printed.
     pub printed: u64,
 }
@@ -119,19 +105,6 @@ pub fn append_reach(reach: Reach, to: &mut Vec<u8>) -> Result<(), AllocError>
     append(b"\n", to)
 }
 
-/// What an outcome is called.
-fn outcome_text(outcome: Outcome) -> &'static [u8]
-    ensures { result.now ≡ spec.outcome_text outcome }
-{
-    match outcome {
-        Outcome::Finished => b"finished",
-        Outcome::Faulted => b"finished with errors",
-        Outcome::AllWaiting => b"all contexts wait",
-        Outcome::StepsOut => b"steps used up",
-        Outcome::Memory => b"out of memory",
-    }
-}
-
 /// Appends which ending it is, and how many cuts it takes.
 fn append_which(told: &EndingLine, to: &mut Vec<u8>) -> Result<(), AllocError>
     ensures appended { OnOk result (to.new.items ≡ to.old.items ++ spec.which_text told.now) }
@@ -147,21 +120,22 @@ fn append_which(told: &EndingLine, to: &mut Vec<u8>) -> Result<(), AllocError>
 }
 
 /// Appends the steps of an ending's order, and its outcome.
-fn append_came_to(told: &EndingLine, to: &mut Vec<u8>) -> Result<(), AllocError>
-    ensures appended { OnOk result (to.new.items ≡ to.old.items ++ spec.came_to told.now) }
+fn append_came_to(steps: u64, outcome: &[u8], to: &mut Vec<u8>) -> Result<(), AllocError>
+    ensures appended { OnOk result
+        (to.new.items ≡ to.old.items ++ spec.came_to steps outcome.now) }
     ensures front { take (length to.old.items) to.new.items ≡ to.old.items }
     ensures capacity { vec_capacity to.old ≤ vec_capacity to.new }
     ensures full { OnErr result
-        (vec_capacity to.old < length (to.old.items ++ spec.came_to told.now)) }
+        (vec_capacity to.old < length (to.old.items ++ spec.came_to steps outcome.now)) }
 {
     append(b", ", to)?;
-    append_counted(told.steps, b"step", to)?;
+    append_counted(steps, b"step", to)?;
     append(b", ", to)?;
-    append(outcome_text(told.outcome), to)?;
+    append(outcome, to)?;
     append(b", ", to)
 }
 
-/// Appends the line of an ending:
+/// Appends the line of an ending, whose outcome is called so:
 ///
 /// ```text
 /// ending NUMBER: NUMBER cuts, NUMBER steps, OUTCOME, NUMBER bytes
@@ -169,15 +143,16 @@ fn append_came_to(told: &EndingLine, to: &mut Vec<u8>) -> Result<(), AllocError>
 ///
 /// `AllocError`: a growth was refused; what stood before stays.
 #[tactic(auto, unfolding(crate::specs::Orders::ending_line))]
-pub fn append_ending(told: &EndingLine, to: &mut Vec<u8>) -> Result<(), AllocError>
-    ensures appended { OnOk result (to.new.items ≡ to.old.items ++ spec.ending_line told.now) }
+pub fn append_ending(told: &EndingLine, outcome: &[u8], to: &mut Vec<u8>) -> Result<(), AllocError>
+    ensures appended { OnOk result
+        (to.new.items ≡ to.old.items ++ spec.ending_line told.now outcome.now) }
     ensures front { take (length to.old.items) to.new.items ≡ to.old.items }
     ensures capacity { vec_capacity to.old ≤ vec_capacity to.new }
     ensures full { OnErr result
-        (vec_capacity to.old < length (to.old.items ++ spec.ending_line told.now)) }
+        (vec_capacity to.old < length (to.old.items ++ spec.ending_line told.now outcome.now)) }
 {
     append_which(told, to)?;
-    append_came_to(told, to)?;
+    append_came_to(told.steps, outcome, to)?;
     append_counted(told.printed, b"byte", to)?;
     append(b"\n", to)
 }

@@ -72,13 +72,13 @@ module _ (entry : Entry) where
   first_none zero = first_all 0 0 (omega arith)
   first_none (suc before) = first_below (suc before) 0 (omega arith)
 
-  move_last : (steps number : ℕ) → number + 1 ≡ steps
+  pub move_last : (steps number : ℕ) → number + 1 ≡ steps
       → move_behind entry steps number ≡ last_move entry
   move_last steps number is =
       ap (λ (is : Bool). if is then last_move entry else plain_move entry.context)
       (eq-eqb (number + 1) steps is)
 
-  move_plain : (steps number : ℕ) → number + 1 ≢ steps
+  pub move_plain : (steps number : ℕ) → number + 1 ≢ steps
       → move_behind entry steps number ≡ plain_move entry.context
   move_plain steps number isnt =
       ap (λ (is : Bool). if is then last_move entry else plain_move entry.context)
@@ -168,7 +168,7 @@ module _ (w : World) (entry : Entry) (steps number : ℕ) (below : number < step
 
 -- ---- the first steps of a schedule
 
-length_moves : (entry : Entry) (steps : ℕ) → length (moves_of entry steps) ≡ steps
+pub length_moves : (entry : Entry) (steps : ℕ) → length (moves_of entry steps) ≡ steps
 length_moves entry zero = refl
 length_moves entry (suc before) =
     let one : before + 1 ≡ suc before = omega arith in

@@ -1,3 +1,4 @@
 pub mod Errors
 pub mod Places
+pub mod StepLines
 pub mod Walks

@@ -1,5 +1,5 @@
 //! A run that is made again, step by step, and tells where the error of each error line is (PLRM2,
-//! 3.10).
+//! 3.10), its state behind a step, or what each step does.
 //!
 //! Why so:
 //! - No element of a procedure carries a place, and a run is made as ever. Who wants places makes it
@@ -19,10 +19,13 @@ mod errors;
 mod kept;
 mod raised;
 mod seats;
+mod singles;
+mod step_lines;
 mod stops;
 mod taken;
 mod telling;
 mod walks;
 
 pub use raised::RaisedAt;
+pub use step_lines::{StepRange, step_lines_of};
 pub use walks::{Rerun, WalkFault, places_of, raised_at, state_of};

@@ -42,6 +42,17 @@ pub enum WalkFault {
     TooLarge,
 }
 
+impl From<AllocError> for WalkFault {
+    ghost use Rattle.std.specs.Prelude.{◌≡◌};
+    ghost use Rattle.ps_walks.specs.declared.walks.WalkFault.TheVariants.{Memory};
+
+    ghost from_gives = { λ _ fault. fault ≡ Memory };
+
+    fn from(_: AllocError) -> WalkFault {
+        WalkFault::Memory
+    }
+}
+
 /// A run to be made again: its program and makers, and what the program's file is called.
 #[derive(Drop)]
 pub struct Rerun<'a, S: Drop, D: Drop> {
@@ -56,11 +67,11 @@ const MOST_ASKED: u32 = 1 << 18;
 
 /// A run that is made again.
 #[derive(Drop)]
-struct Walk<'a, M: Memory + Drop, S: Interpret + Drop, D: Deeds + Drop> {
-    makers: Makers<S, D>,
-    world: World,
-    runtime: Runtime<'a, M>,
-    kept: Kept<'a>,
+pub(crate) struct Walk<'a, M: Memory + Drop, S: Interpret + Drop, D: Deeds + Drop> {
+    pub(crate) makers: Makers<S, D>,
+    pub(crate) world: World,
+    pub(crate) runtime: Runtime<'a, M>,
+    pub(crate) kept: Kept<'a>,
 }
 
 /// The texts of the places of the errors whose lines the steps of a schedule print, in their order.
@@ -121,10 +132,8 @@ pub fn state_of<S: Interpret + Drop, D: Deeds + Drop>(
         operators: &makers.operators,
     };
     let mut text = Vec::new(alloc);
-    match append_state(&chart, &crowd, count, &mut runtime, &mut text) {
-        Ok(()) => Ok(text),
-        Err(AllocError) => Err(WalkFault::Memory),
-    }
+    append_state(&chart, &crowd, count, &mut runtime, &mut text)?;
+    Ok(text)
 }
 
 /// What is kept behind the steps of a schedule.
@@ -140,7 +149,7 @@ fn make_walk<'a, S: Interpret + Drop, D: Deeds + Drop>(
 }
 
 /// A run before its first step.
-fn begin_walk<'a, S: Interpret + Drop, D: Deeds + Drop>(
+pub(crate) fn begin_walk<'a, S: Interpret + Drop, D: Deeds + Drop>(
     alloc: Global,
     run: Rerun<'a, S, D>,
 ) -> Result<Walk<'a, Marked<PlainMemory>, S, D>, WalkFault>
@@ -186,7 +195,7 @@ impl<M: Memory + Drop, S: Interpret + Drop, D: Deeds + Drop> Walk<'_, M, S, D> {
     }
 
     /// Makes so many of the first steps of a schedule, or all where it has fewer.
-    fn follow_front(
+    pub(crate) fn follow_front(
         &mut self,
         alloc: Global,
         schedule: Entries<'_>,
@@ -233,7 +242,7 @@ impl<M: Memory + Drop, S: Interpret + Drop, D: Deeds + Drop> Walk<'_, M, S, D> {
     }
 
     /// Makes a step of a context, if it is ready, and tells whether it is.
-    fn try_step(
+    pub(crate) fn try_step(
         &mut self,
         alloc: Global,
         context: u32,
@@ -295,13 +304,9 @@ impl<M: Memory + Drop, S: Interpret + Drop, D: Deeds + Drop> Walk<'_, M, S, D> {
         else {
             return Err(fault_of(&mut self.runtime));
         };
-        match self
-            .kept
-            .behind(alloc, known, &self.world, &mut self.runtime)
-        {
-            Ok(()) => Ok(()),
-            Err(AllocError) => Err(WalkFault::Memory),
-        }
+        self.kept
+            .behind(alloc, known, &self.world, &mut self.runtime)?;
+        Ok(())
     }
 }
 
@@ -320,7 +325,7 @@ fn front_of(entry: Entry, steps: u64) -> Entry
 
 /// Whether the step of an entry behind so many of it is refused, and what it is shown: all but the
 /// last are ordinary ones.
-fn way_of(entry: Entry, number: u32) -> (bool, Option<(i32, i32)>)
+pub(crate) fn way_of(entry: Entry, number: u32) -> (bool, Option<(i32, i32)>)
     requires { number < entry.steps }
     ensures { move_of entry.context result.0 result.1
         ≡ (if number + 1 == entry.steps then last_move entry else plain_move entry.context) }

@@ -10,7 +10,7 @@ returns-then-is_some-clause-run g c = driven_more _ _ _ _ _ _ _ _ _ refl (λ ask
     (λ fault. elim fault [
       | inl file ↦ inl (inl file)
       | inr past ↦ inr past
-    ]) c.show_state-status.ensures.run
+    ]) c.show_view-status.ensures.run
 
 pub returns-in-None-clause-run : goal.returns-in-None-clause-run
 returns-in-None-clause-run g c = driven_more _ _ _ _ _ _ _ _ _ refl (λ asked is. is)

@@ -1,6 +1,7 @@
 use Rattle.std.proofs.Common.{◌≡◌, ℕ, Option, map, inl, inr, refl, sym, ap, subst, ◌∙◌}
 use Rattle.std.specs.Prelude.{codes, ◌⊎◌, option_map}
-use Rattle.ps_run_options.specs.CommandLine.{IsFlag, size_in}
+use Rattle.ps_run_options.specs.CommandLine.{IsFlag, view_asked}
+use Rattle.ps_run_options.specs.declared.views.View.{View}
 use Rattle.ps_vault.specs.Reports.{IsWithin}
 use Rattle.ps_run.specs.Driving.{AreAsked, AreOutOfRange, Asked, IsFileFault, IsPastEnd, IsUnread, Names, asked_of, config_in, most_endings, names_in, names_of, records_in, records_of}
 use Rattle.ps_run.specs.Driving as driving
@@ -63,7 +64,7 @@ is_fault : (g : givens.Over) (c : In-Ok g) (err : Told)
     ⊎ (AreOutOfRange (map (λ word. word.now) c.args.words.now)
     ⊎ IsPastEnd (g.F.FileSet.contents c.args.outside.now.files)
     (names_in (map (λ word. word.now) c.args.words.now))
-    (size_in (codes "at") (map (λ word. word.now) c.args.words.now))
+    (view_asked (map (λ word. word.now) c.args.words.now))
     (g.X.Telling.told c.args.outside.now.err) err)
 is_fault g c err (inl (inl file)) = inl (subst (λ (names : Names).
     IsFileFault (g.F.FileSet.contents c.args.outside.now.files) names
@@ -79,9 +80,9 @@ is_fault g c err (inl (inr outside)) = inr (inl (record {
 }))
 is_fault g c err (inr past) = inr (inr (subst (λ (names : Names).
     IsPastEnd (g.F.FileSet.contents c.args.outside.now.files) names
-    (size_in (codes "at") (map (λ word. word.now) c.args.words.now))
+    (view_asked (map (λ word. word.now) c.args.words.now))
     (g.X.Telling.told c.args.outside.now.err) err) (same_names g c)
-    (subst (λ (at : Option ℕ). IsPastEnd (g.F.FileSet.contents c.args.outside.now.files)
+    (subst (λ (at : Option View). IsPastEnd (g.F.FileSet.contents c.args.outside.now.files)
     (names_of c.in-Ok.options) at (g.X.Telling.told c.args.outside.now.err) err)
     c.in-Ok.ensures.at past)))
 

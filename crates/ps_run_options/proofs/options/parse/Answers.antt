@@ -11,6 +11,8 @@ use Rattle.clap.proofs.OnLiterals.{clap_on_literals}
 use Rattle.clap.proofs.WalkLemmas.{first_value-rows, one_text-rows}
 use Rattle.ps_run_options.specs.CommandLine.{are_explored, are_sized, are_sizes, exploration_of, misses, command_line, faults_in, flag_in, excludes, is_excluded, named_in, overwrites, is_overwritten, own_faults, source_fault, tells_whole}
 use Rattle.ps_run_options.specs.Sizes.{size_of}
+use Rattle.ps_run_options.specs.Views.{view_in}
+use Rattle.ps_run_options.specs.declared.views.View.{View}
 use Rattle.ps_run_options.proofs.options.parse.Goals as goal
 
 -- the command line is one whose matches and faults the rules decide
@@ -240,7 +242,7 @@ returns-clause-entries c = c.in-Ok-sizes_of.ensures.entries
 
 pub returns-clause-at : goal.returns-clause-at
 returns-clause-at c = c.in-Ok-sizes_of.ensures.at
-    ∙ ap (option_and_then size_of) (name_is _ _ _ (codes "at") c.in_ok-line.ensures
+    ∙ ap (option_and_then view_in) (name_is _ _ _ (codes "at") c.in_ok-line.ensures
     c.in_ok-matches.ensures.ok.2)
 
 pub returns-clause-stats : goal.returns-clause-stats
@@ -328,9 +330,9 @@ first_false true b is = cc
 first_false false b is = refl
 
 -- where nothing excludes another, a state isn't asked for without a schedule
-has_schedule : (at replay : Option Text) (whole : Bool) (step : Option ℕ)
+has_schedule : (at replay : Option Text) (whole : Bool) (view : Option View)
     → (is_some at && (is_none replay || whole)) ≡ false
-    → step ≡ option_and_then size_of at → is_some step ≡ true → is_some replay ≡ true
+    → view ≡ option_and_then view_in at → is_some view ≡ true → is_some replay ≡ true
 has_schedule None replay whole step free is some = absurd (true≢false (sym some ∙ ap is_some is))
 has_schedule (Some text) None whole step free is some = absurd (true≢false free)
 has_schedule (Some text) (Some name) whole step free is some = refl

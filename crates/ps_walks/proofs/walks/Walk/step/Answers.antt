@@ -23,9 +23,9 @@ behind-requires-clause-held g c =
     (g.M.Memory.heap c.step.new.runtime.memory) keeps c.known_of-known.result
     c.known_of-known.ensures.held
 
-pub returns-in-Ok-behind-clause-made : goal.returns-in-Ok-behind-clause-made
+pub returns-clause-made : goal.returns-clause-made
 unfolding step
-returns-in-Ok-behind-clause-made g c = λ w is.
+returns-clause-made g c = λ w is.
     let known = c.known_of-known in
     let at = world_same g.M.Memory.heap g.M.Memory.grants c.args.self.now.world _ _
     known.ensures.heap known.ensures.grants known.ensures.shared w is in

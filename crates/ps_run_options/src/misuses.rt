@@ -1,0 +1,180 @@
+//! What can't be used beside what in the words of a command line, or without it.
+
+ghost use Rattle.std.specs.Prelude.{◌≡◌, ◌||◌, codes, is_some};
+ghost use Rattle.clap.specs.Words.{first_value, found_of};
+ghost use Rattle.ps_run_options.specs.CommandLine as spec;
+
+use clap::ArgMatches;
+
+/// What is told of a schedule that is given beside what it can't be used with.
+const REPLAY_EXCLUDED: &str = "the argument '--replay <FILE>' cannot be used with '--plain', \
+    '--record <FILE>', '--explore <N>' or '--entries <N>'";
+
+/// What is told of places that are asked for beside many runs.
+const WHERE_EXCLUDED: &str = "the argument '--where' cannot be used with '--explore <N>'";
+
+/// What is told of a state that is asked for without a schedule.
+const AT_ALONE: &str = "the argument '--at <N>' cannot be used without '--replay <FILE>'";
+
+/// What is told of a state that is asked for beside what is told of a whole run.
+const AT_EXCLUDED: &str = "the argument '--at <N>' cannot be used with '--stream', '--where', \
+    '--stats' or '--output <N>'";
+
+/// What is told of a stream that is asked for beside many runs.
+const STREAM_EXCLUDED: &str = "the argument '--stream' cannot be used with '--explore <N>'";
+
+/// What is told of all orders without a bound on their cuts.
+const CUTS_MISSED: &str = "the argument '--explore all' can only be used with '--cuts <N>'";
+
+/// What is told of a bound on cuts without all orders.
+const CUTS_ALONE: &str = "the argument '--cuts <N>' can only be used with '--explore all'";
+
+/// What is told of a bound on runs without all orders.
+const RUNS_ALONE: &str = "the argument '--runs <N>' can only be used with '--explore all'";
+
+/// What is told of a record that would take the place of the program.
+pub(crate) const OVERWRITTEN: &str = "the argument '--record <FILE>' would write over the program";
+
+/// Whether a flag stands in the words of the matches.
+fn is_set(matches: &ArgMatches<'_>, name: &str) -> bool
+    ensures { result ≡ spec.is_set (first_value (found_of matches.now) name.now) }
+{
+    match matches.get_str(name) {
+        Some(text) => text == "true",
+        None => false,
+    }
+}
+
+/// Whether the words of the matches say how a run is made, or record it.
+fn makes_otherwise(matches: &ArgMatches<'_>) -> bool
+    ensures { result ≡ spec.makes_otherwise (first_value (found_of matches.now)) }
+{
+    is_set(matches, "plain")
+        || matches.get_str("record").is_some()
+        || matches.get_str("explore").is_some()
+        || matches.get_str("entries").is_some()
+}
+
+/// Whether the words of the matches ask for what is told of a whole run, or bound it.
+fn tells_whole(matches: &ArgMatches<'_>) -> bool
+    ensures { result ≡ spec.tells_whole (first_value (found_of matches.now)) }
+{
+    is_set(matches, "stream")
+        || is_set(matches, "where")
+        || is_set(matches, "stats")
+        || matches.get_str("output").is_some()
+}
+
+/// Whether all orders are asked for in the words of the matches.
+pub(crate) fn explores_all(matches: &ArgMatches<'_>) -> bool
+    ensures { result ≡ spec.is_all (first_value (found_of matches.now) (codes "explore")) }
+{
+    match matches.get_str("explore") {
+        Some(text) => text == "all",
+        None => false,
+    }
+}
+
+/// What is told where all orders have no bound on their cuts in the words of the matches, or a bound
+/// stands there without them.
+fn missed(matches: &ArgMatches<'_>) -> Option<&'static str>
+    ensures { is_some result ≡ spec.misses (first_value (found_of matches.now)) }
+{
+    let bounds_cuts = matches.get_str("cuts").is_some();
+    if explores_all(matches) {
+        return if bounds_cuts { None } else { Some(CUTS_MISSED) };
+    }
+    if bounds_cuts {
+        return Some(CUTS_ALONE);
+    }
+    if matches.get_str("runs").is_some() {
+        return Some(RUNS_ALONE);
+    }
+    None
+}
+
+/// What is told where something is given in the words of the matches beside what it can't be used
+/// with.
+fn excluded(matches: &ArgMatches<'_>) -> Option<&'static str>
+    ensures { is_some result ≡ spec.excludes (first_value (found_of matches.now)) }
+{
+    let explores = matches.get_str("explore").is_some();
+    let replays = matches.get_str("replay").is_some();
+    if replays && makes_otherwise(matches) {
+        return Some(REPLAY_EXCLUDED);
+    }
+    if is_set(matches, "stream") && explores {
+        return Some(STREAM_EXCLUDED);
+    }
+    if is_set(matches, "where") && explores {
+        return Some(WHERE_EXCLUDED);
+    }
+    if matches.get_str("at").is_none() {
+        return None;
+    }
+    if !replays {
+        return Some(AT_ALONE);
+    }
+    if tells_whole(matches) {
+        return Some(AT_EXCLUDED);
+    }
+    None
+}
+
+/// What is told where something in the words of the matches can't be used with what stands there, or
+/// without what doesn't.
+pub(crate) fn misused(matches: &ArgMatches<'_>) -> Option<&'static str>
+    ensures { is_some result ≡ (spec.excludes (first_value (found_of matches.now))
+        || spec.misses (first_value (found_of matches.now))) }
+{
+    match excluded(matches) {
+        Some(text) => Some(text),
+        None => missed(matches),
+    }
+}
+
+/// Whether a text is a number in decimal, of any size.
+fn is_number(text: &[u8]) -> bool
+    ensures { result ≡ spec.is_number text.now }
+{
+    for byte in text {
+        if !byte.is_ascii_digit() {
+            return false;
+        }
+    }
+    !text.is_empty()
+}
+
+/// Whether a text is a full stop and a number.
+fn is_extension(text: &[u8]) -> bool
+    ensures { result ≡ spec.is_extension text.now }
+{
+    match text {
+        [b'.', number @ ..] => is_number(number),
+        _ => false,
+    }
+}
+
+/// Whether a name is that of the record of an ending, where such names begin with `prefix`.
+fn is_numbered(name: &str, prefix: &str) -> bool
+    ensures { result ≡ spec.is_numbered prefix.now name.now }
+{
+    let (name, prefix) = (name.as_bytes(), prefix.as_bytes());
+    name.starts_with(prefix) && is_extension(&name[prefix.len()..])
+}
+
+/// Whether a record that is asked for in the words of the matches takes the place of the program.
+pub(crate) fn is_overwritten(matches: &ArgMatches<'_>) -> bool
+    ensures { result ≡ spec.overwrites (first_value (found_of matches.now) (codes "record"))
+        (first_value (found_of matches.now) (codes "explore"))
+        (first_value (found_of matches.now) (codes "FILE")) }
+{
+    let (Some(record), Some(file)) = (matches.get_str("record"), matches.get_str("FILE")) else {
+        return false;
+    };
+    if matches.get_str("explore").is_some() {
+        is_numbered(file, record)
+    } else {
+        file == record
+    }
+}
