@@ -1,12 +1,12 @@
 -- When the ending of each way from a path is told.
 use Rattle.std.proofs.Common.{◌≡◌, ℕ, ◌+◌, ◌-◌, ◌<◌, ◌≤◌, Bool, true, false, Some, List, [], ◌∷◌, ◌++◌, sym, ◌∙◌, ap, subst, inl, inr, arith}
 use Rattle.std.proofs.lemmas.Bool.{cases_eq, cases_lt, true≢false}
-use Rattle.std.proofs.lemmas.List.Elements.{All-push, Contains-append_left, Contains-push}
+use Rattle.std.proofs.lemmas.List.Elements.{All-push}
 use Rattle.std.specs.Prelude.{All, Contains, ◌↔◌}
 use Rattle.ps_searches.specs.declared.found.Told.{Told}
 use Rattle.ps_searches.specs.Searches.{Prices, IsOver, IsNoneAbove, IsNextAbove, cost, IsSchedule, Costs, GoesFreely, IsEnd, IsOnWay, IsAmongTold, EveryEnding, IsTold, AreTold, AllTold, Keeps, AddsEnding}
 use Rattle.ps_searches.proofs.Paths.{none_some, ahead, costs_when, whole_tail, some_left, one_way, is_schedule, costs_at}
-use Rattle.ps_searches.proofs.Telling.{any_of, among_of}
+use Rattle.ps_searches.proofs.Telling.{among_of, added_keeps}
 
 module _ {E S : Type 0} (price : Prices) (Ends : (schedule : List ℕ) → E → Type 0) where
   -- ---- ends
@@ -144,26 +144,6 @@ module _ {E S : Type 0} (price : Prices) (Ends : (schedule : List ℕ) → E →
 
   module _ (eq : E → E → Bool) (equal : (schedule : List ℕ) (a b : E) → Ends schedule a
       → Ends schedule b ↔ (eq a b ≡ true)) (Makes : S → (path : List ℕ) → Type 0) where
-    pub added_keeps : (old new : List (E × Told S)) (one : E × Told S) → AddsEnding eq old one new
-        → Keeps Ends old new
-    added_keeps old new one (inl same) schedule among =
-        subst (λ (told : List (E × Told S)). IsAmongTold Ends told schedule) (sym same.0) among
-    added_keeps old new one (inr added) schedule among =
-        subst (λ (told : List (E × Told S)). IsAmongTold Ends told schedule) (sym added.0)
-        (any_of _ (old ++ one ∷ []) among.1
-        (Contains-append_left old (one ∷ []) among.1 (among_of _ old among)) among.4)
-
-    -- it is among those that are told
-    pub added_is : (old new : List (E × Told S)) (one : E × Told S) (schedule : List ℕ)
-        → AddsEnding eq old one new → Ends schedule one.0 → IsAmongTold Ends new schedule
-    added_is old new one schedule (inl same) ends =
-        subst (λ (told : List (E × Told S)). IsAmongTold Ends told schedule) (sym same.0)
-        (any_of _ old same.1.1 (among_of _ old same.1)
-        ((equal schedule one.0 same.1.1.0 ends).1 same.1.4))
-    added_is old new one schedule (inr added) ends =
-        subst (λ (told : List (E × Told S)). IsAmongTold Ends told schedule) (sym added.0)
-        (any_of _ (old ++ one ∷ []) one (Contains-push old one) ends)
-
     -- none that is cheaper ends so
     pub none_cheaper : (steps at : ℕ) (old : List (E × Told S)) (ending : E)
         → EveryEnding price Ends steps at old
@@ -201,6 +181,6 @@ module _ {E S : Type 0} (price : Prices) (Ends : (schedule : List ℕ) → E →
                     subst (λ (n : ℕ). n ≤ cost price [] other) (sym costs)
                     (none_cheaper steps at old one.0 told.cheaper added.1 other is ends);
               }));
-          cheaper = λ schedule is less. added_keeps old new one (inr added) schedule
+          cheaper = λ schedule is less. added_keeps Ends eq equal old new one (inr added) schedule
               (told.cheaper schedule is less);
         }

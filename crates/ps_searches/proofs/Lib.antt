@@ -1,3 +1,4 @@
 pub mod Covering
 pub mod Paths
 pub mod Telling
+pub mod Worlds

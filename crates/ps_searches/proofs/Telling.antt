@@ -1,10 +1,11 @@
 -- What is told, and what a map of it has.
-use Rattle.std.proofs.Common.{◌≡◌, ◌≤◌, ◌+◌, ℕ, inl, inr, length, length-append, ◌++◌, suc, Bool, true, false, cond, List, [], ◌∷◌, None, Some, refl, sym, ◌∙◌, ap, arith}
-use Rattle.std.specs.Prelude.{◌⊎◌, Any, Contains, Option, is_some}
+use Rattle.std.proofs.Common.{◌≡◌, ◌≤◌, ◌+◌, ℕ, inl, inr, length, length-append, ◌++◌, suc, Bool, true, false, cond, List, [], ◌∷◌, None, Some, refl, sym, ◌∙◌, ap, subst, arith}
+use Rattle.std.specs.Prelude.{◌⊎◌, ◌↔◌, Any, Contains, Option, is_some}
 use Rattle.std.specs.Map.{lookup}
 use Rattle.std.proofs.lemmas.Bool.{true≢false}
-use Rattle.std.proofs.lemmas.List.Elements.{All-contains, All-from_recursion}
+use Rattle.std.proofs.lemmas.List.Elements.{All-contains, All-from_recursion, Contains-append_left, Contains-push}
 use Rattle.std.proofs.lemmas.Map.{none_passes_from_lookup}
+use Rattle.ps_searches.specs.Searches.{AddsEnding, IsAmongTold, Keeps}
 
 -- ---- elements
 
@@ -58,3 +59,28 @@ module _ {K V : Type 0} (test : K → Bool) where
   not_looked_up entries none e among =
       All-contains (λ (e : K × V). test e.0 ≡ false) entries e
       (All-from_recursion _ entries (none_passes_from_lookup test entries none)) among
+
+-- ---- endings
+
+module _ {E V : Type 0} (Ends : (schedule : List ℕ) → E → Type 0) (eq : E → E → Bool)
+    (equal : (schedule : List ℕ) (a b : E) → Ends schedule a
+    → Ends schedule b ↔ (eq a b ≡ true)) where
+  pub added_keeps : (old new : List (E × V)) (one : E × V) → AddsEnding eq old one new
+      → Keeps Ends old new
+  added_keeps old new one (inl same) schedule among =
+      subst (λ (told : List (E × V)). IsAmongTold Ends told schedule) (sym same.0) among
+  added_keeps old new one (inr added) schedule among =
+      subst (λ (told : List (E × V)). IsAmongTold Ends told schedule) (sym added.0)
+      (any_of _ (old ++ one ∷ []) among.1
+      (Contains-append_left old (one ∷ []) among.1 (among_of _ old among)) among.4)
+
+  -- it is among those that are told
+  pub added_is : (old new : List (E × V)) (one : E × V) (schedule : List ℕ)
+      → AddsEnding eq old one new → Ends schedule one.0 → IsAmongTold Ends new schedule
+  added_is old new one schedule (inl same) ends =
+      subst (λ (told : List (E × V)). IsAmongTold Ends told schedule) (sym same.0)
+      (any_of _ old same.1.1 (among_of _ old same.1)
+      ((equal schedule one.0 same.1.1.0 ends).1 same.1.4))
+  added_is old new one schedule (inr added) ends =
+      subst (λ (told : List (E × V)). IsAmongTold Ends told schedule) (sym added.0)
+      (any_of _ (old ++ one ∷ []) one (Contains-push old one) ends)

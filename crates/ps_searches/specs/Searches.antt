@@ -55,9 +55,9 @@ pub record IsSchedule (price : Prices) (steps : ℕ) (schedule : List ℕ) : Typ
 -- ---- what is told of them
 
 -- a schedule's run ends as one that is told
-abbrev pub IsAmongTold : {E S : Type 0} → (Ends : (schedule : List ℕ) → E → Type 0)
-    → (told : List (E × Told S)) → (schedule : List ℕ) → Type 0
-IsAmongTold {E} {S} Ends told schedule = Any (λ (one : E × Told S). Ends schedule one.0) told
+abbrev pub IsAmongTold : {E V : Type 0} → (Ends : (schedule : List ℕ) → E → Type 0)
+    → (told : List (E × V)) → (schedule : List ℕ) → Type 0
+IsAmongTold {E} {V} Ends told schedule = Any (λ (one : E × V). Ends schedule one.0) told
 
 module _ {E S : Type 0} (price : Prices) (Ends : (schedule : List ℕ) → E → Type 0) where
   -- each schedule that costs less than so much ends as one that is told
@@ -125,7 +125,8 @@ pub record IsOnWay (price : Prices) (steps at : ℕ) (path : List ℕ) (left tol
 
 module _ {E S : Type 0} (price : Prices) (Ends : (schedule : List ℕ) → E → Type 0) where
   -- each is told as it is to be, and so is each ending of a cheaper schedule
-  pub record AreTold (Makes : S → (path : List ℕ) → Type 0) (steps at : ℕ) (told : List (E × Told S)) : Type 0
+  pub record AreTold (Makes : S → (path : List ℕ) → Type 0) (steps at : ℕ)
+      (told : List (E × Told S)) : Type 0
     where
       pub each : All (IsTold price Ends Makes steps) told
       pub cheaper : EveryEnding price Ends steps at told
@@ -136,8 +137,8 @@ module _ {E S : Type 0} (price : Prices) (Ends : (schedule : List ℕ) → E →
       → IsWhole price left path more → IsAmongTold Ends told (path ++ more)
 
 -- what was told is told
-abbrev pub Keeps : {E S : Type 0} → (Ends : (schedule : List ℕ) → E → Type 0)
-    → (old new : List (E × Told S)) → Type 0
+abbrev pub Keeps : {E V : Type 0} → (Ends : (schedule : List ℕ) → E → Type 0)
+    → (old new : List (E × V)) → Type 0
 Keeps Ends old new = (schedule : List ℕ) → IsAmongTold Ends old schedule
     → IsAmongTold Ends new schedule
 

@@ -38,6 +38,23 @@ pub struct Bounds {
     pub runs: u64,
 }
 
+/// Keeps an ending where none before it was equal, with what is told of it. Fails where that finds
+/// no room; nothing is kept then.
+pub(crate) fn add_ending<E: Eq + Hash + Drop, V: Drop>(
+    endings: &mut IndexMap<E, V>,
+    ending: E,
+    told: V,
+) -> Result<(), AllocError>
+    ensures added { OnOk result (AddsEnding E.eq endings.old.entries (ending, told)
+        endings.new.entries) }
+    ensures none { OnErr result (endings.new.entries ≡ endings.old.entries) }
+{
+    if !endings.contains_key(&ending) {
+        endings.insert(ending, told)?;
+    }
+    Ok(())
+}
+
 /// A search under way.
 #[derive(Drop)]
 pub(crate) struct Search<E: Eq + Hash, S, W> {
@@ -80,9 +97,7 @@ impl<E: Eq + Hash + Drop, S: Drop, W: Watcher + Drop> Search<E, S, W> {
         ensures price { self.new.price ≡ self.old.price }
     {
         let price = self.price;
-        if !self.endings.contains_key(&ending) {
-            self.endings.insert(ending, Told { price, schedule })?;
-        }
+        add_ending(&mut self.endings, ending, Told { price, schedule })?;
         self.runs += 1;
         self.watcher.run_ended(self.runs, self.endings.len(), price);
         Ok(())

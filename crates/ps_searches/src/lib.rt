@@ -13,12 +13,21 @@
 //! - Where nothing is left to be paid the run goes on by itself (`finish`): most steps of a search
 //!   are made there, at full speed.
 //! - The bound on runs is met only where one more is to be made. So a search that could be whole is.
+//! - A search by worlds (`cover`) keeps each world once, by an image, and follows each context that
+//!   can step from it. Where no step leads out of what is kept, no schedule does, however long; so it
+//!   has no bound on steps or price.
+//! - A run may be where other paths lead than its own. So what is asked of a step is asked for every
+//!   path whose world the run is at (`RunGraph`), and nothing of two runs that were never made.
 #![tactic(auto)]
 
+mod covers;
 mod found;
+mod graphs;
 mod searches;
 mod trees;
 
+pub use covers::{Covered, Extent, cover};
 pub use found::{Bounds, Found, Told};
+pub use graphs::RunGraph;
 pub use searches::search;
 pub use trees::{NoWatcher, RunTree, Watcher};

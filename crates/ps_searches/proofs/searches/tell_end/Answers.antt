@@ -1,8 +1,8 @@
 use Rattle.std.proofs.Common.{◌≤◌, ap, arith, refl, subst, sym}
 use Rattle.ps_searches.specs.declared.found.Bounds.{Bounds}
 use Rattle.ps_searches.specs.Searches.{IsAmongTold}
-use Rattle.ps_searches.proofs.Covering.{added_is, added_keeps, added_told, told_entries, told_freely, told_same}
-use Rattle.ps_searches.proofs.Telling.{added_count}
+use Rattle.ps_searches.proofs.Covering.{added_told, told_entries, told_freely, told_same}
+use Rattle.ps_searches.proofs.Telling.{added_count, added_is, added_keeps}
 use Rattle.ps_searches.proofs.searches.tell_end.Goals as goal
 
 pub returns-in_err-tell-clause-on : goal.returns-in_err-tell-clause-on
@@ -38,9 +38,8 @@ returns-clause-on g c = record {
       (g.met.T.RunTree.equal c.args.tree.now) g.T.RunTree.Makes _ _ c.args.left
       (g.T.RunTree.path c.args.run) _ _ _ c.requires.may.told c.in_ok-tell.ensures.endings refl
       c.requires.may.way c.in_ok-ending.ensures);
-  keeps = added_keeps (g.T.RunTree.price c.args.tree.now) (g.T.RunTree.Ends c.args.tree.now) _
-      (g.met.T.RunTree.equal c.args.tree.now) g.T.RunTree.Makes _ _ _
-      c.in_ok-tell.ensures.endings;
+  keeps = added_keeps (g.T.RunTree.Ends c.args.tree.now) _
+      (g.met.T.RunTree.equal c.args.tree.now) _ _ _ c.in_ok-tell.ensures.endings;
   runs = let count = added_count _ _ _ _ _ c.in_ok-tell.ensures.endings in record {
     within = subst (λ (b : Bounds). c.tell.new.self.runs ≤ b.runs) (sym c.tell.ensures.bounds)
         (omega (arith, c.in_ok-tell.ensures.runs, c.if-search.false));
@@ -57,6 +56,5 @@ pub returns-clause-all : goal.returns-clause-all
 returns-clause-all g c =
     told_freely (g.T.RunTree.price c.args.tree.now) (g.T.RunTree.Ends c.args.tree.now) c.args.left
     (g.T.RunTree.path c.args.run) _ _ c.in_ok-ending.ensures.goes
-    (added_is (g.T.RunTree.price c.args.tree.now) (g.T.RunTree.Ends c.args.tree.now) _
-    (g.met.T.RunTree.equal c.args.tree.now) g.T.RunTree.Makes _ _ _ _
-    c.in_ok-tell.ensures.endings c.in_ok-ending.ensures.ends)
+    (added_is (g.T.RunTree.Ends c.args.tree.now) _
+    (g.met.T.RunTree.equal c.args.tree.now) _ _ _ _ c.in_ok-tell.ensures.endings c.in_ok-ending.ensures.ends)
