@@ -134,7 +134,7 @@ no_end shows_memory other = refl
 no_end (wishes number) other = refl
 
 -- of a step that ends no turn
-quiet : (now : World) (context : ℕ) → Tells IsNoEnd now (plain_move context)
+pub quiet : (now : World) (context : ℕ) → Tells IsNoEnd now (plain_move context)
     → is_turn_end (stepped now context false None).note ≡ false
 quiet now context tells =
     no_end _ (λ ends. tells.told (sym (told-alike now context false tells.shown) ∙ ends))
@@ -251,6 +251,21 @@ module _ (start : World) (old new : List Move) (context n : ℕ) (some : 1 ≤ n
 
 -- ---- they cost nothing
 
+-- behind one that didn't end its turn its context is due again, where it is ready
+pub due_again : (start : World) (made : List Move) (context : ℕ)
+    → Tells IsNoEnd (after_moves start made) (plain_move context)
+    → is_ready (after_moves start (made ++ plain_move context ∷ [])) context ≡ true
+    → due start (made ++ plain_move context ∷ []) ≡ Some context
+due_again start made context tells ready =
+    let now = after_moves start (made ++ plain_move context ∷ []) in
+    let rest = next_round now (last_of (made ++ plain_move context ∷ [])) in
+    let holds : holder start (made ++ plain_move context ∷ []) ≡ Some context =
+    holder-append start made (plain_move context)
+    ∙ ap (λ (b : Bool). if b then None else Some context)
+    (quiet (after_moves start made) context tells) in
+    ap (λ (h : Option ℕ). or_else (if_ready now h) rest) holds
+    ∙ ap (λ (b : Bool). or_else (if b then Some context else None) rest) ready
+
 pub and_left : (a b : Bool) → (a && b) ≡ true → a ≡ true
 and_left true b is = refl
 and_left false b is = absurd (true≢false (sym is))
@@ -268,23 +283,17 @@ module _ (program : List ℕ) (context : ℕ) where
       ap (after_moves (starting_world program)) (steps_by-append path (context ∷ []))
       ∙ after_moves-append (starting_world program) (steps_by path) (plain_move context ∷ [])
 
-  -- behind one that didn't end its turn it is due again, where it is ready
-  due_again : (path : List ℕ)
+  due_there : (path : List ℕ)
       → Tells IsNoEnd (after_moves (starting_world program) (steps_by path)) (plain_move context)
       → is_ready (after_moves (starting_world program) (steps_by (path ++ context ∷ []))) context
       ≡ true
       → due (starting_world program) (steps_by (path ++ context ∷ [])) ≡ Some context
-  due_again path tells ready =
+  due_there path tells ready =
       let start = starting_world program in
-      let now = after_moves start (steps_by (path ++ context ∷ [])) in
-      let rest = next_round now (last_of (steps_by (path ++ context ∷ []))) in
-      let holds : holder start (steps_by (path ++ context ∷ [])) ≡ Some context =
-      ap (holder start) (steps_by-append path (context ∷ []))
-      ∙ (holder-append start (steps_by path) (plain_move context)
-      ∙ ap (λ (b : Bool). if b then None else Some context)
-      (quiet (after_moves start (steps_by path)) context tells)) in
-      ap (λ (h : Option ℕ). or_else (if_ready now h) rest) holds
-      ∙ ap (λ (b : Bool). or_else (if b then Some context else None) rest) ready
+      let same = steps_by-append path (context ∷ []) in
+      ap (due start) same
+      ∙ due_again start (steps_by path) context tells
+      (ap (λ (ms : List Move). is_ready (after_moves start ms) context) (sym same) ∙ ready)
 
   pub many_free : (n : ℕ) (path : List ℕ)
       → due (starting_world program) (steps_by path) ≡ Some context
@@ -303,7 +312,7 @@ module _ (program : List ℕ) (context : ℕ) where
       (behind_one path) ∙ and_right _ _ ready in (
         due_free program path context is here,
         many_free n (path ++ context ∷ [])
-            (due_again path tells.0 (and_left _ _ next)) next
+            (due_there path tells.0 (and_left _ _ next)) next
             (subst (λ (w : World). AllFrom (Tells IsNoEnd) w
             (replicate n (plain_move context))) (sym (behind_one path)) tells.1),
       )

@@ -7,7 +7,7 @@ use Rattle.ps_language.specs.World.{World}
 use Rattle.ps_language.specs.Worlds.{starting_world}
 use Rattle.ps_language.proofs.Evaluation.{evaluation}
 use Rattle.ps_vault.specs.Reports.{is_first_refused}
-use Rattle.ps_cuts.specs.Cuts.{AllPlain, cuts, cuts_behind, due, first_ready, going, holder, is_turn_end, last_of, price, steps_by}
+use Rattle.ps_cuts.specs.Cuts.{AllPlain, cuts, cuts_at, cuts_behind, due, first_ready, going, holder, is_turn_end, last_of, price, steps_by}
 
 -- ---- the end of a turn
 
@@ -79,6 +79,12 @@ one_cut = refl
 two_cuts : cuts program (steps_by (1 ∷ 1 ∷ 1 ∷ 2 ∷ 1 ∷ [])) ≡ 2
 unfolding evaluation cuts_behind holder last_of first_ready program
 two_cuts = refl
+
+-- behind three steps the second steps in place of the first, and behind one more the first again
+where_two : cuts_at start [] (steps_by (1 ∷ 1 ∷ 1 ∷ 2 ∷ 1 ∷ []))
+    ≡ record { behind = 3; left = 1; other = 2 } ∷ record { behind = 4; left = 2; other = 1 } ∷ []
+unfolding evaluation cuts_at holder last_of first_ready start program
+where_two = refl
 
 -- ---- prices
 

@@ -1,11 +1,12 @@
 -- A run's world, and what the steps behind it cost.
-use Rattle.std.proofs.Common.{◌≡◌, ℕ, zero, suc, ◌≤◌, Bool, true, false, Option, Some, None, List, [], ◌∷◌, ◌++◌, append_assoc, append-nil, refl, sym, ◌∙◌, ap, subst, arith}
+use Rattle.std.proofs.Common.{◌≡◌, ℕ, zero, suc, ◌+◌, ◌≤◌, Bool, true, false, Option, Some, None, List, [], ◌∷◌, ◌++◌, append_assoc, append-nil, length, length-append, refl, sym, ◌∙◌, ap, subst, arith}
 use Rattle.std.specs.Prelude.{◌&&◌, ◌-◌, Err, IfOk, IfSome, Ok, Result, IsSome, replicate}
 use Rattle.std.proofs.lemmas.Bool.{true≢false}
 use Rattle.std.proofs.lemmas.Bool.Decides.{nat_tests}
+use Rattle.std.proofs.lemmas.List.{length-replicate}
 use Rattle.ps_language.specs.declared.schedules.Entry.{Entry}
 use Rattle.ps_language.specs.Locks.{is_ready}
-use Rattle.ps_language.specs.Schedules.{Move, last_move, moves, moves_of, plain_move}
+use Rattle.ps_language.specs.Schedules.{Move, count_of, last_move, moves, moves_of, plain_move}
 use Rattle.ps_language.specs.World.{World}
 use Rattle.ps_language.specs.Worlds.{after_moves, all_ready, starting_world, world, IsProper}
 use Rattle.ps_language.proofs.WorldLaws.{after_moves-append, all_ready-append}
@@ -121,6 +122,20 @@ module _ (all : List Entry) (plain : AllPlain (moves all)) (story : Story) (entr
       (replicate entry.steps (plain_move entry.context)) (moves rest)
       ∙ (ap (λ (ms : List Move). moves story.schedule ++ (ms ++ moves rest)) (sym entry_steps)
       ∙ sym whole))
+
+  -- no more than in all
+  pub few_made : length (moves story.schedule) + entry.steps ≤ count_of all
+  unfolding whole count_of
+  few_made =
+      let made = moves story.schedule in
+      let steps = replicate entry.steps (plain_move entry.context) in
+      let is_all : moves all ≡ made ++ (steps ++ moves rest) =
+      whole ∙ ap (λ (ms : List Move). made ++ (ms ++ moves rest)) entry_steps in
+      let long = length-append made (steps ++ moves rest) in
+      let behind = length-append steps (moves rest) in
+      let many = length-replicate entry.steps (plain_move entry.context) in
+      let size = ap {B = ℕ} length is_all in
+      omega (arith, long, behind, many, size)
 
 -- ---- where a run is
 

@@ -11,6 +11,7 @@ use Rattle.ps_language.specs.Step.{stepped}
 use Rattle.ps_language.specs.World.{World}
 use Rattle.ps_language.specs.Worlds.{after_move, after_moves, starting_world, world, IsProper}
 use Rattle.ps_searches.specs.Searches.{Prices}
+use Rattle.ps_views.specs.declared.cuts.CutAt.{CutAt}
 
 -- ---- who steps next
 
@@ -78,6 +79,19 @@ unfoldable pub cuts_behind : (start : World) → (made more : List Move) → ℕ
 cuts_behind start made [] = 0
 cuts_behind start made (move ∷ more) =
     cut_by (due start made) move.context + cuts_behind start (made ++ move ∷ []) more
+
+-- the cut that the step of a context is behind so many, if it is one
+abbrev pub cut_at : (behind : ℕ) → (due : Option ℕ) → (context : ℕ) → List CutAt
+cut_at behind None context = []
+cut_at behind (Some other) context = if other == context then []
+    else record { behind = behind; left = other; other = context } ∷ []
+
+-- those of these moves, behind others, that are of another than who is due
+unfoldable pub cuts_at : (start : World) → (made more : List Move) → List CutAt
+cuts_at start made [] = []
+cuts_at start made (move ∷ more) =
+    cut_at (length made) (due start made) move.context
+    ++ cuts_at start (made ++ move ∷ []) more
 
 -- how many of a program's moves
 abbrev pub cuts : (program : List ℕ) → List Move → ℕ

@@ -10,15 +10,19 @@
 //!   and whose turn it is (`PlainRun`).
 //! - Many steps are made at once. That each of them was one that could be made is known where the
 //!   vault is given up, and so that none of them was a cut (`go_on`).
+//! - Where the cuts of an order are isn't kept while orders are searched. The run of one that is
+//!   told is made again for them (`cuts_of`): within steps that are made at once there is none.
 //! - Two endings are one where the printed bytes and the outcome are (`Ending`); the hash is of the
 //!   bytes alone.
 #![tactic(auto)]
 
+mod cutting;
 mod endings;
 mod exploring;
 mod runs;
 mod trees;
 
+pub use cutting::cuts_of;
 pub use endings::Ending;
 pub use exploring::explore_orders;
 pub use runs::PlainRun;

@@ -27,18 +27,22 @@ pub struct Runs<'a, S: Drop, D: Drop> {
 }
 
 impl<'a, S: Interpret + Clone + Drop, D: Deeds + Clone + Drop> Runs<'a, S, D> {
+    /// Its makers, for one run more. Fails where a growth is refused.
+    pub fn makers(&self) -> Result<Makers<S, D>, AllocError> {
+        Ok(Makers {
+            steps: self.task.makers.steps.clone()?,
+            operators: self.task.makers.operators.clone()?,
+        })
+    }
+
     /// A run before its first step. Fails where its first room can't be had.
-    fn begin(&self) -> Result<PlainRun<'a, S, D>, AllocError>
+    pub(crate) fn begin(&self) -> Result<PlainRun<'a, S, D>, AllocError>
         ensures of { IfOk result (λ run. IsRun self.now.task.program.now run.vault run.path.items
             run.turn run.last) }
         ensures none { IfOk result (λ run. run.vault.schedule ≡ []) }
     {
-        let makers = Makers {
-            steps: self.task.makers.steps.clone()?,
-            operators: self.task.makers.operators.clone()?,
-        };
         let task = Task {
-            makers,
+            makers: self.makers()?,
             program: self.task.program,
             setup: self.task.setup,
         };

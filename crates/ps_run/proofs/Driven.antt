@@ -11,7 +11,7 @@ use Rattle.clap.specs.Values.{kind_of}
 use Rattle.clap.specs.declared.error.Error.{Error}
 use Rattle.clap.specs.declared.error.kind.ErrorKind.TheVariants as kind
 use Rattle.ps_run.specs.declared.statuses.Status.{Status}
-use Rattle.ps_run.specs.Driving.{Asked, Contents, KeepsProgram, Names, Outputs, IsBegun, IsDriven, IsRecordName, IsShown, IsWritten}
+use Rattle.ps_run.specs.Driving.{Asked, Contents, KeepsProgram, Names, Outputs, IsBegun, IsDriven, IsShown, IsWritten, IsWrittenName}
 use Rattle.ps_run.specs.Telling.{Told}
 use Rattle.ps_run.proofs.ReadParts.{of_known}
 
@@ -50,7 +50,10 @@ driven_more asks names other A B F G told outputs same more fault driven =
       run = run.run;
       places = run.places;
       are_places = run.are_places;
+      ended = run.ended;
       written = run.written;
+      drawn = run.drawn;
+      others = run.others;
       keeps = run.keeps;
     })))
     with_more (inr (inr (inr (inl runs)))) = inr (inr (inr (inl (record {
@@ -75,6 +78,8 @@ driven_more asks names other A B F G told outputs same more fault driven =
       is_program = all.is_program;
       orders = all.orders;
       are = all.are;
+      lines = all.lines;
+      are_lines = all.are_lines;
       written = all.written;
       keeps = all.keeps;
     })))))
@@ -102,22 +107,22 @@ driven_more asks names other A B F G told outputs same more fault driven =
       tells = untold.tells;
     }))))))
 
--- the name of a record, by other words of it
-pub record_named : (recorded other : Option Text) (many more : Option ℕ) (name : Text)
-    → recorded ≡ other → many ≡ more → IsRecordName recorded many name
-    → IsRecordName other more name
-record_named recorded other many more name same equal is =
-    subst (λ (m : Option ℕ). IsRecordName other m name) equal
-    (subst (λ (r : Option Text). IsRecordName r many name) same is)
+-- the name of a file that is written, by other words of it
+pub written_named : (recorded other drawn another : Option Text) (many more : Option ℕ)
+    (name : Text) → recorded ≡ other → drawn ≡ another → many ≡ more
+    → IsWrittenName recorded drawn many name → IsWrittenName other another more name
+written_named recorded other drawn another many more name same alike equal is =
+    subst (λ (m : Option ℕ). IsWrittenName other another m name) equal
+    (subst (λ (d : Option Text). IsWrittenName other d many name) alike
+    (subst (λ (r : Option Text). IsWrittenName r drawn many name) same is))
 
--- where only records are written, and none holds the program, those that hold it are let be
-pub keeps_program : (old new : Contents) (recorded : Option Text) (many : Option ℕ)
-    (program : List ℕ)
-    → ((name : Text) → IsRecordName recorded many name
-    → IfSome (old name) (λ known. known ≢ program))
-    → ((name : Text) → ¬ IsRecordName recorded many name → new name ≡ old name)
+-- where only files of some names are written, and none of them holds the program, those that hold it
+-- are let be
+pub keeps_program : (old new : Contents) (Named : Text → Type 0) (program : List ℕ)
+    → ((name : Text) → Named name → IfSome (old name) (λ known. known ≢ program))
+    → ((name : Text) → ¬ Named name → new name ≡ old name)
     → KeepsProgram old new program
-keeps_program old new recorded many program apart others = λ name holds.
+keeps_program old new Named program apart others = λ name holds.
     others name (λ is. of_known (old name) (λ known. known ≢ program) program holds (apart name is)
     refl) ∙ holds
 

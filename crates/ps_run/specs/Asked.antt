@@ -19,8 +19,8 @@ use Rattle.ps_vault.specs.Reports.{Bounds, IsWithin}
 -- what the words ask for of a run; plain: whether over memory that is never collected, whatever the
 -- space; streamed: whether printed bytes may go out while it goes on; places: whether the places of
 -- errors are told; explored: which runs, where it isn't a single one; at: what is told of the run
--- under a schedule that is given, in place of what it prints; output, entries: the most bytes that it
--- may print, and the most entries of its schedule, if there is a bound
+-- under a schedule that is given, in place of what it prints; output, entries: the most bytes that
+-- it may print, and the most entries of its schedule, if there is a bound
 pub record Asked : Type 0 where
   pub space : ℕ
   pub steps : ℕ
@@ -63,13 +63,13 @@ abbrev pub space_of : Asked → Space
 space_of asked = if asked.plain then plain_space else bounded_space asked.space
 
 -- the program's text, and the names of files, as far as they are given: that of the program, that
--- of
--- the record, and that of the schedule to follow
+-- of the record, that of the schedule to follow, and that of the picture
 pub record Names : Type 0 where
   pub file : Option Text
   pub text : Option Text
   pub recorded : Option Text
   pub replayed : Option Text
+  pub drawn : Option Text
 
 abbrev pub names_in : List Text → Names
 names_in words = record {
@@ -77,6 +77,7 @@ names_in words = record {
   text = named_in (codes "e") words;
   recorded = named_in (codes "record") words;
   replayed = named_in (codes "replay") words;
+  drawn = named_in (codes "timeline") words;
 }
 
 -- the numbers of a run and the names of files among what the words ask for
@@ -123,6 +124,7 @@ names_of options = record {
   text = program_text options.source;
   recorded = option_map (λ name. name.now) options.record_file;
   replayed = option_map (λ name. name.now) options.replay_file;
+  drawn = option_map (λ name. name.now) options.timeline_file;
 }
 
 -- the words' numbers are none of a run: the rules refuse such words

@@ -1,5 +1,5 @@
 -- What a run from a command line is, its exit status, and what is written.
-use Rattle.std.specs.Prelude.{◌≡◌, ◌<◌, ◌≤◌, ◌+◌, ◌⊎◌, ◌++◌, ◌-◌, ◌^◌, ⊤, drop, min, take, unwrap_or, ℕ, Bool, true, false, All, List, [], ◌∷◌, slice_index_or, Option, Some, None, IfSome, IsSome, map, option_map, option_and_then, length, codes}
+use Rattle.std.specs.Prelude.{◌≡◌, ◌≢◌, ◌<◌, ◌≤◌, ◌+◌, ◌⊎◌, ◌++◌, ◌-◌, ◌^◌, ⊤, drop, min, take, unwrap_or, ℕ, Bool, true, false, All, List, [], ◌∷◌, slice_index_or, Option, Some, None, IfSome, IsSome, map, option_map, option_and_then, length, codes}
 use Rattle.std.specs.Option.{option_or}
 use Rattle.std.specs.Fmt.{decimal}
 use Rattle.std.specs.Io.KnownBytes.{Appends}
@@ -24,9 +24,13 @@ use Rattle.ps_vault.specs.Endings.{AreEndings}
 use Rattle.ps_vault.specs.Order.{InOrder}
 use Rattle.ps_vault.specs.Reports.{IsBounded, IsReplayOf, IsRunIn, IsUncollected, UnderPart, WithBudget, are_ordinary}
 use Rattle.ps_vault.specs.Screens.{AppendsPart}
-use Rattle.ps_run.specs.Orders.{AreOrders, Orders, order_lines, report_of}
+use Rattle.ps_run.specs.Orders.{AreOrderLines, AreOrders, Orders, report_of}
 use Rattle.ps_walks.specs.StepLines.{AreStepLines}
+use Rattle.ps_walks.specs.Timelines.{IsTimelineOf}
 use Rattle.ps_walks.specs.Walks.{world_behind}
+use Rattle.ps_walks.specs.declared.walks.WalkFault.{WalkFault}
+use Rattle.ps_timelines.specs.declared.pictures.Timeline.{Timeline}
+use Rattle.ps_timelines.specs.Pictures.{picture}
 use Rattle.ps_run.specs.Telling.{Tells, Told}
 use Rattle.ps_run.specs.declared.files.ReadFault.{ReadFault}
 use Rattle.ps_run.specs.declared.files.ReadFault.TheVariants as fault
@@ -36,7 +40,7 @@ pub use Rattle.ps_run.specs.Lines.{status_of, number_of, line_of, number_line, l
 pub use Rattle.ps_run.specs.Lines.{unwritten_line, count_lines, counts_of, untold_line, told_of}
 pub use Rattle.ps_run.specs.Lines.{ArePlaces, reason_of, status_for, unread, reason_line}
 pub use Rattle.ps_run.specs.Lines.{lines_for, unread_lines, bad_line, ending_lines, past_end_line}
-pub use Rattle.ps_run.specs.Lines.{too_large_line, outcome_text}
+pub use Rattle.ps_run.specs.Lines.{too_large_line, outcome_text, undrawn_line}
 pub use Rattle.ps_run.specs.Asked.{Asked, most_output, most_entries, AreAsked, most_asked}
 pub use Rattle.ps_run.specs.Asked.{space_of, Names, names_in, config_in, asked_of, most_endings}
 pub use Rattle.ps_run.specs.Asked.{records_in, records_of, names_of, AreOutOfRange}
@@ -67,11 +71,14 @@ IsGiven contents (Some name) (Some given) = AreEntries given
     × IfSome (contents name) (λ bytes. text_of given ≡ bytes)
 IsGiven contents _ _ = ⊥
 
--- a file holds the text of a schedule, if one is named
+-- a file holds these bytes, if one is named
+abbrev pub IsHeldIn : Contents → Option Text → (bytes : List ℕ) → Type 0
+IsHeldIn contents None bytes = ⊤
+IsHeldIn contents (Some name) bytes = IfSome (contents name) (λ known. known ≡ bytes)
+
+-- the text of a schedule
 abbrev pub IsRecorded : Contents → Option Text → List Entry → Type 0
-IsRecorded contents None schedule = ⊤
-IsRecorded contents (Some name) schedule =
-    IfSome (contents name) (λ bytes. bytes ≡ text_of schedule)
+IsRecorded contents recorded schedule = IsHeldIn contents recorded (text_of schedule)
 
 -- asks: what a step asks for that the language doesn't say
 module _ (asks : world.Status → Around → Scene → acts.Asked) (program : List ℕ) where
@@ -177,6 +184,33 @@ IsWritten cut recorded places stats report told outputs =
     × Tells outputs.err_old outputs.err_new
     (places ++ (counts_of stats report ++ line_of told)))))
 
+-- ---- its picture
+
+-- the picture of a run: of a timeline that is that of its steps
+pub record IsPicture (file program : List ℕ) (report : Report) (text : List ℕ) : Type 0 where
+  pub told : Timeline
+  pub is_told : IsTimelineOf file (outcome_text report.outcome) (worlds.starting_world program)
+      (moves report.schedule.items) told
+  pub is_text : text ≡ picture told
+
+-- what a run came to before its picture is drawn: its status, what standard error has, and files
+pub record Ended : Type 0 where
+  pub status : Status
+  pub err : Told
+  pub files : Contents
+
+-- the picture is written to the file that is named, where one is, and nothing else has changed; or
+-- it can't be, and that is told; or it isn't drawn, and why is told
+abbrev pub IsDrawn : (drawn : Option Text) → (IsPicture : List ℕ → Type 0) → (old new : Ended)
+    → Type 0
+IsDrawn None IsPicture old new = new ≡ old
+IsDrawn (Some name) IsPicture old new =
+    ((new.status ≡ old.status) × (new.err ≡ old.err)
+    × (text : List ℕ) × IsPicture text × IsHeldIn new.files (Some name) text)
+    ⊎ (((new.status ≡ status.Usage) × Tells old.err new.err (unwritten_line name))
+    ⊎ ((new.status ≡ old.status) × (new.files ≡ old.files)
+    × (why : WalkFault) × Tells old.err new.err (undrawn_line why)))
+
 -- ---- many runs
 
 -- the name of the record of an ending, by its number from 1 on
@@ -190,6 +224,10 @@ IsRecordName None many name = ⊥
 IsRecordName (Some recorded) None name = name ≡ recorded
 IsRecordName (Some prefix) (Some count) name =
     (number : ℕ) × (1 ≤ number) × (number ≤ count) × (name ≡ numbered prefix number)
+
+-- and that of the picture
+abbrev pub IsWrittenName : (recorded drawn : Option Text) → (many : Option ℕ) → Text → Type 0
+IsWrittenName recorded drawn many name = IsRecordName recorded many name ⊎ (drawn ≡ Some name)
 
 -- files hold the texts of the schedules of the first so many endings, if their names are asked for
 abbrev pub AreRecorded : Contents → Option Text → List Report → (count : ℕ) → Type 0
@@ -230,7 +268,8 @@ AreWritten recorded runs endings also told outputs =
 
 -- the text of what is to be told of the run under this schedule. Origins: where tokens begin that
 -- made objects
-abbrev pub IsViewOf : (file program : List ℕ) → (given : List Entry) → View → (text : List ℕ) → Type 0
+abbrev pub IsViewOf : (file program : List ℕ) → (given : List Entry) → View → (text : List ℕ)
+    → Type 0
 IsViewOf file program given (State step) text = (origins : List Origin) × (text ≡ state_text
     (record { file = file; program = program; origins = origins })
     (world_behind program given step) step (min (count_of given) (2 ^ 64 - 1)))
@@ -272,12 +311,12 @@ HasNoSchedule contents (Some name) err_old err_new =
     IfSome (contents name) (λ bytes. (line : ℕ) × IsBadAt bytes line
     × Tells err_old err_new (bad_line line))
 
--- a record would be written over a file that holds the program
+-- a record or a picture would be written over a file that holds the program
 pub record WritesOver (contents : Contents) (names : Names) (many : Option ℕ) : Type 0 where
   pub program : List ℕ
   pub is_program : IsProgramIn contents names program
   pub name : Text
-  pub is_record : IsRecordName names.recorded many name
+  pub is_written : IsWrittenName names.recorded names.drawn many name
   pub holds : IfSome (contents name) (λ bytes. bytes ≡ program)
 
 -- a fault of what the files hold: of the program's, of the schedule's, or of the record's
@@ -306,7 +345,13 @@ module _ (asks : world.Status → Around → Scene → acts.Asked) (names : Name
     pub run : IsFileRun asks outputs.files_old names asked cut report
     pub places : List ℕ
     pub are_places : ArePlaces asked.places report places
-    pub written : IsWritten cut names.recorded places asked.stats report told outputs
+    pub ended : Ended
+    pub written : IsWritten cut names.recorded places asked.stats report ended.status
+        (record outputs { err_new = ended.err; files_new = ended.files })
+    pub drawn : IsDrawn names.drawn (IsPicture (program_name names) run.program report) ended
+        (record { status = told; err = outputs.err_new; files = outputs.files_new })
+    pub others : (name : Text) → names.drawn ≢ Some name
+        → outputs.files_new name ≡ ended.files name
     pub keeps : KeepsProgram outputs.files_old outputs.files_new run.program
 
   -- many runs of the program, under schedules that can be read again, that were written
@@ -333,8 +378,10 @@ module _ (asks : world.Status → Around → Scene → acts.Asked) (names : Name
     pub is_program : IsProgramIn outputs.files_old names program
     pub orders : Orders
     pub are : AreOrders program asked.steps bounds orders
-    pub written : AreWritten names.recorded orders.runs (map report_of orders.endings)
-        (order_lines bounds orders) told outputs
+    pub lines : List ℕ
+    pub are_lines : AreOrderLines (program_name names) program bounds orders lines
+    pub written : AreWritten names.recorded orders.runs (map report_of orders.endings) lines told
+        outputs
     pub keeps : KeepsProgram outputs.files_old outputs.files_new program
 
   -- a run that is streamed has begun: the output has a beginning of what the program prints
@@ -349,8 +396,8 @@ module _ (asks : world.Status → Around → Scene → acts.Asked) (names : Name
     pub schedule : List Entry
     pub part : AppendsPart outputs.out_old outputs.out_new (worlds.printed program schedule)
 
-  -- a state, or steps, of the run under the schedule that is named were written, as of worlds of the
-  -- program that were never collected
+  -- a state, or steps, of the run under the schedule that is named were written, as of worlds of
+  -- the program that were never collected
   pub record IsViewWritten (told : Status) (outputs : Outputs) : Type 0 where
     pub asked : Asked
     pub is_asked : IsAsked asked

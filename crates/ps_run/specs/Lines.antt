@@ -79,6 +79,12 @@ untold_line walk.Memory = codes "dpsrun: no places: out of memory\n"
 untold_line walk.TooLarge =
     codes "dpsrun: no places: the run is too large to be made again\n"
 
+-- the line that it has of one whose picture isn't drawn
+abbrev pub undrawn_line : WalkFault → List ℕ
+undrawn_line walk.Memory = codes "dpsrun: no timeline: out of memory\n"
+undrawn_line walk.TooLarge =
+    codes "dpsrun: no timeline: the run is too large to be made again\n"
+
 -- what is told of the places of its errors
 abbrev pub told_of : Places → List ℕ
 told_of Unasked = []

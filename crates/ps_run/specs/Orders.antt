@@ -1,8 +1,10 @@
 -- All orders of a program's steps with few cuts, and the lines that tell of them.
 use Rattle.std.specs.Prelude.{◌≡◌, ◌+◌, ◌-◌, ◌^◌, ◌<◌, ◌≤◌, ℕ, min, All, List, [], ◌∷◌, ◌++◌, length, map}
-use Rattle.ps_language.specs.Schedules.{count_of}
+use Rattle.ps_language.specs.declared.schedules.Entry.{Entry}
+use Rattle.ps_language.specs.Schedules.{count_of, moves}
+use Rattle.ps_language.specs.Worlds.{starting_world}
 use Rattle.ps_cuts.specs.declared.endings.Ending.{Ending}
-use Rattle.ps_cuts.specs.Cuts.{EveryEnding}
+use Rattle.ps_cuts.specs.Cuts.{EveryEnding, cuts_at}
 use Rattle.ps_cuts.specs.Runs.{EndsAsTold, IsToldOf}
 use Rattle.ps_run_options.specs.declared.options.OrderBounds.{OrderBounds}
 use Rattle.ps_run_schedules.specs.Keeping.{Kept}
@@ -11,6 +13,8 @@ use Rattle.ps_vault.specs.declared.reports.Report.{Report}
 use Rattle.ps_views.specs.declared.orders.EndingLine.{EndingLine}
 use Rattle.ps_run.specs.Lines.{outcome_text}
 use Rattle.ps_views.specs.Orders.{ending_line, reach_line}
+use Rattle.ps_walks.specs.Cuts.{AreCutLines}
+use Rattle.ps_walks.specs.Walks.{world_behind}
 
 -- their endings, each with an order that ends so, which of them are all known, and how many runs
 -- were made
@@ -58,23 +62,33 @@ told_as number told = record {
 abbrev pub line_told : (number : ℕ) → Ending × Told Kept → List ℕ
 line_told number told = ending_line (told_as number told) (outcome_text told.0.outcome)
 
--- a line each, by numbers behind that of another
-abbrev pub lines_behind : (last : ℕ) → List (Ending × Told Kept) → List ℕ
-lines_behind last [] = []
-lines_behind last (told ∷ rest) =
-    line_told (last + 1) told ++ lines_behind (last + 1) rest
+-- the lines of the cuts of an order, each of the world before it
+abbrev pub AreCutsTold : (file program : List ℕ) → (schedule : List Entry) → List ℕ → Type 0
+AreCutsTold file program schedule lines = AreCutLines file (world_behind program schedule)
+    (cuts_at (starting_world program) [] (moves schedule)) lines
 
--- which orders were explored, and how they ended
-abbrev pub order_lines : OrderBounds → Orders → List ℕ
-order_lines bounds orders =
-    reach_line (record { cuts = bounds.cuts; below = orders.below; runs = orders.runs })
-    ++ lines_behind 0 orders.endings
+-- of each ending its line and those of its cuts, by numbers behind that of another
+abbrev pub AreLinesBehind : (file program : List ℕ) → (last : ℕ) → List (Ending × Told Kept)
+    → List ℕ → Type 0
+AreLinesBehind file program last [] lines = lines ≡ []
+AreLinesBehind file program last (told ∷ rest) lines = (cuts : List ℕ) × (more : List ℕ)
+    × (lines ≡ line_told (last + 1) told ++ (cuts ++ more))
+    × AreCutsTold file program told.1.schedule.items cuts
+    × AreLinesBehind file program (last + 1) rest more
+
+-- which orders were explored, how they ended, and where the cuts are
+pub record AreOrderLines (file program : List ℕ) (bounds : OrderBounds) (orders : Orders)
+    (lines : List ℕ) : Type 0 where
+  pub endings : List ℕ
+  pub are : lines ≡ reach_line
+      (record { cuts = bounds.cuts; below = orders.below; runs = orders.runs }) ++ endings
+  pub are_endings : AreLinesBehind file program 0 orders.endings endings
 
 -- these are orders: the runs of those that are told, how many runs were made in all, and the lines
-pub record AreTold (program : List ℕ) (steps : ℕ) (bounds : OrderBounds) (reports : List Report)
-    (runs : ℕ) (lines : List ℕ) : Type 0 where
+pub record AreTold (file program : List ℕ) (steps : ℕ) (bounds : OrderBounds)
+    (reports : List Report) (runs : ℕ) (lines : List ℕ) : Type 0 where
   pub orders : Orders
   pub are : AreOrders program steps bounds orders
   pub are_reports : reports ≡ map report_of orders.endings
   pub are_runs : runs ≡ orders.runs
-  pub are_lines : lines ≡ order_lines bounds orders
+  pub are_lines : AreOrderLines file program bounds orders lines

@@ -4,7 +4,7 @@ ghost use Rattle.std.specs.Prelude.{◌≡◌, ◌≢◌, ◌⊎◌, [], ℕ, Li
 ghost use Rattle.ps_run_options.specs.CommandLine.{IsExploration, faults_in, named_in, view_asked};
 ghost use Rattle.ps_vault.specs.Reports.{IsWithin};
 ghost use Rattle.ps_run.specs.Driving as driving;
-ghost use Rattle.ps_run.specs.Driving.{AreAsked, AreOutOfRange, IsDriven, IsFileFault, IsPastEnd, IsRecordName, IsUnread, asked_of, config_in, names_in, names_of, records_of};
+ghost use Rattle.ps_run.specs.Driving.{AreAsked, AreOutOfRange, IsDriven, IsFileFault, IsPastEnd, IsWrittenName, IsUnread, asked_of, config_in, names_in, names_of, records_of};
 
 use crate::exploring::explore;
 use crate::files::FileSet;
@@ -14,7 +14,8 @@ use crate::making::{config_of, make};
 use crate::orders::explore_each_order;
 use crate::outputs::{Flushing, Telling};
 use crate::outside::Outside;
-use crate::places::{again_of, places_in};
+use crate::pictures::{Drawing, draw};
+use crate::places::{agains_of, places_in};
 use crate::reading::{read_given, read_program};
 use crate::statuses::{Status, end, number_of};
 use crate::streams::{output_of, screen_of};
@@ -78,7 +79,8 @@ pub fn drive<
         → ((result.0 ≡ 2) ⊎ (result.0 ≡ 5)) × (W.contents result.1 ≡ W.contents out)
         × (outside.new.files ≡ outside.old.files) }
     ensures files { (name : List ℕ)
-        → ¬ IsRecordName (named_in (codes "record") (map (λ word. word.now) words.now))
+        → ¬ IsWrittenName (named_in (codes "record") (map (λ word. word.now) words.now))
+        (named_in (codes "timeline") (map (λ word. word.now) words.now))
         (driving.records_in (map (λ word. word.now) words.now)) name
         → F.contents outside.new.files name ≡ F.contents outside.old.files name }
     ensures unread { F.last_fault outside.old.files ≡ None
@@ -141,8 +143,8 @@ fn carry_out<
 ) -> (Status, W)
     requires range { IfSome options.now.explore IsExploration }
     requires given { is_some options.now.at ≡ true → is_some options.now.replay_file ≡ true }
-    ensures files { (name : List ℕ) → ¬ IsRecordName (names_of options.now).recorded
-        (records_of options.now) name
+    ensures files { (name : List ℕ) → ¬ IsWrittenName (names_of options.now).recorded
+        (names_of options.now).drawn (records_of options.now) name
         → F.contents outside.new.files name ≡ F.contents outside.old.files name }
     ensures unread { F.last_fault outside.old.files ≡ None
         → IfSome (F.last_fault outside.new.files)
@@ -202,7 +204,8 @@ fn run<
 ) -> (Status, W)
     requires single { options.now.explore ≡ None }
     requires whole { options.now.at ≡ None }
-    ensures files { (name : List ℕ) → ¬ IsRecordName (names_of options.now).recorded None name
+    ensures files { (name : List ℕ) → ¬ IsWrittenName (names_of options.now).recorded
+        (names_of options.now).drawn None name
         → F.contents outside.new.files name ≡ F.contents outside.old.files name }
     ensures unread { F.last_fault outside.old.files ≡ None
         → IfSome (F.last_fault outside.new.files)
@@ -234,6 +237,7 @@ fn run<
     let records = Records {
         name: options.record_file,
         many: None,
+        timeline: options.timeline_file,
     };
     if let Err(status) = keep_program(alloc, records, bytes, &outside.files, &mut outside.err) {
         return (status, out);
@@ -242,7 +246,7 @@ fn run<
         Ok(given) => given,
         Err(status) => return (status, out),
     };
-    let Ok(again) = again_of(options, &makers, bytes, system.keys) else {
+    let Ok(again) = agains_of(options, &makers, bytes, system.keys) else {
         return (end(&mut outside.err, Status::Memory), out);
     };
     let job = Job {
@@ -255,12 +259,18 @@ fn run<
     let Watched { report, screen } = make(system, job, options, given, screen);
     match report {
         Ok(report) => {
-            let places = places_in(alloc, again, options, &report);
+            let places = places_in(alloc, again.places, options, &report);
             let made = Made {
                 report: &report,
                 places: places.text(),
             };
-            finish(alloc, made, options, screen, outside)
+            let (status, out) = finish(alloc, made, options, screen, outside);
+            let drawing = Drawing {
+                report: &report,
+                again: again.picture,
+                status,
+            };
+            (draw(alloc, drawing, options, outside), out)
         }
         Err(RunFault::Memory) => (end(&mut outside.err, Status::Memory), output_of(screen)),
         Err(RunFault::Config) => (Status::Usage, output_of(screen)),

@@ -76,6 +76,7 @@ pub(crate) fn explore<
     let records = Records {
         name: options.record_file,
         many: Some(runs),
+        timeline: options.timeline_file,
     };
     if let Err(status) = keep_program(alloc, records, bytes, &outside.files, &mut outside.err) {
         return status;

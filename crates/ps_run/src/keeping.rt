@@ -1,28 +1,31 @@
-//! That no record is written over a file that holds the program, whatever its name.
+//! That neither a record nor a picture is written over a file that holds the program, whatever its
+//! name.
 
-ghost use Rattle.std.specs.Prelude.{◌≡◌, ◌≢◌, ◌≤◌, ◌⊎◌, ℕ, List, Some, false, true, OnOk, IfErr, IfOk, IfSome, option_map};
+ghost use Rattle.std.specs.Prelude.{◌≡◌, ◌≢◌, ◌≤◌, ◌⊎◌, ℕ, List, Some, None, false, true, OnOk, IfErr, IfOk, IfSome, option_map};
 ghost use Rattle.ps_run.specs.Driving as driving;
-ghost use Rattle.ps_run.specs.Driving.{IsRecordName, numbered};
+ghost use Rattle.ps_run.specs.Driving.{IsRecordName, IsWrittenName, numbered};
 ghost use Rattle.ps_run.specs.Telling.{Tells};
 
 use crate::files::FileSet;
 use crate::outputs::Telling;
 use crate::statuses::{Status, end};
 use crate::telling::refuse;
-use ps_run_options::overwritten;
+use ps_run_options::{OutputFile, overwritten};
 use std::alloc::{AllocError, Global};
 
-/// The names of records.
+/// The names of records, and of a picture.
 #[derive(Clone, Copy)]
 pub(crate) struct Records<'a> {
-    /// The name that is given for them, if one is.
+    /// The name that is given for records, if one is.
     pub(crate) name: Option<&'a str>,
     /// How many endings there may be, where it isn't the record of a single run.
     pub(crate) many: Option<u32>,
+    /// The name that is given for a picture, if one is.
+    pub(crate) timeline: Option<&'a str>,
 }
 
-/// Fails where a record that is asked for would be written over a file that holds the program, or
-/// where memory is wanted for its name. That is told, and the status is the error.
+/// Fails where a record or a picture that is asked for would be written over a file that holds the
+/// program, or where memory is wanted for its name. That is told, and the status is the error.
 pub(crate) fn keep_program<F: FileSet, X: Telling>(
     alloc: Global,
     records: Records<'_>,
@@ -32,37 +35,65 @@ pub(crate) fn keep_program<F: FileSet, X: Telling>(
 ) -> Result<(), Status>
     ensures told { OnOk result (err.new ≡ err.old) }
     ensures kept { OnOk result ((name : List ℕ)
-        → IsRecordName (option_map (λ given. given.now) records.entry.name) records.entry.many name
+        → IsWrittenName (option_map (λ given. given.now) records.entry.name)
+        (option_map (λ given. given.now) records.entry.timeline) records.entry.many name
         → IfSome (F.contents files.now name) (λ known. known ≢ program.now)) }
     ensures over { IfErr result (λ told. ((told ≡ Status.Memory)
         × Tells (X.told err.old) (X.told err.new) (driving.line_of Status.Memory))
         ⊎ ((told ≡ Status.Usage) × (name : List ℕ)
-        × IsRecordName (option_map (λ given. given.now) records.entry.name) records.entry.many name
+        × IsWrittenName (option_map (λ given. given.now) records.entry.name)
+        (option_map (λ given. given.now) records.entry.timeline) records.entry.many name
         × IfSome (F.contents files.now name) (λ known. known ≡ program.now))) }
 {
     match writes_over(alloc, records, program, files) {
-        Ok(false) => Ok(()),
-        Ok(true) => Err(tell_over(alloc, err)),
+        Ok(None) => Ok(()),
+        Ok(Some(written)) => Err(tell_over(alloc, written, err)),
         Err(_) => Err(end(err, Status::Memory)),
     }
 }
 
-/// Tells that a record would be written over the program, as a command line is told that names one
+/// Tells that a file would be written over the program, as a command line is told that names one
 /// file for both.
-fn tell_over<X: Telling>(alloc: Global, err: &mut X) -> Status
+fn tell_over<X: Telling>(alloc: Global, written: OutputFile, err: &mut X) -> Status
     ensures { ((result ≡ Status.Memory)
         × Tells (X.told err.old) (X.told err.new) (driving.line_of Status.Memory))
         ⊎ (result ≡ Status.Usage) }
 {
-    match overwritten(alloc) {
+    match overwritten(alloc, written) {
         Ok(error) => refuse(alloc, &error, err),
         Err(_) => end(err, Status::Memory),
     }
 }
 
+/// What that is asked for would be written over a file that holds the program. Fails for want of
+/// memory.
+fn writes_over<F: FileSet>(
+    alloc: Global,
+    records: Records<'_>,
+    program: &[u8],
+    files: &F,
+) -> Result<Option<OutputFile>, AllocError>
+    ensures kept { IfOk result (λ over. over ≡ None → (name : List ℕ)
+        → IsWrittenName (option_map (λ given. given.now) records.entry.name)
+        (option_map (λ given. given.now) records.entry.timeline) records.entry.many name
+        → IfSome (F.contents files.now name) (λ known. known ≢ program.now)) }
+    ensures over { IfOk result (λ over. IfSome over (λ written. (name : List ℕ)
+        × IsWrittenName (option_map (λ given. given.now) records.entry.name)
+        (option_map (λ given. given.now) records.entry.timeline) records.entry.many name
+        × IfSome (F.contents files.now name) (λ known. known ≡ program.now))) }
+{
+    if records_over(alloc, records, program, files)? {
+        return Ok(Some(OutputFile::Record));
+    }
+    match records.timeline {
+        Some(name) if files.holds(name, program) => Ok(Some(OutputFile::Picture)),
+        _ => Ok(None),
+    }
+}
+
 /// Whether a record that is asked for would be written over a file that holds the program. Fails
 /// for want of memory.
-fn writes_over<F: FileSet>(
+fn records_over<F: FileSet>(
     alloc: Global,
     records: Records<'_>,
     program: &[u8],

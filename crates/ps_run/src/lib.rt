@@ -44,6 +44,7 @@ mod making;
 mod orders;
 mod outputs;
 mod outside;
+mod pictures;
 mod places;
 mod progress;
 mod reading;

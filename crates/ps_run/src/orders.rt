@@ -1,12 +1,15 @@
 //! All orders of a program's steps with few cuts, and the lines that tell of them.
 
-ghost use Rattle.std.specs.Prelude.{◌≡◌, ◌+◌, ◌<◌, ◌≤◌, ◌^◌, ◌⊎◌, ◌++◌, ℕ, List, true, false, None, Some, map, length, IfOk, IfSome, OnOk};
+ghost use Rattle.std.specs.Prelude.{◌≡◌, ◌+◌, ◌<◌, ◌≤◌, ◌^◌, ◌⊎◌, ◌++◌, ℕ, List, true, false, None, Some, All, map, length, IfOk, IfSome, OnOk};
+ghost use Rattle.ps_language.specs.Schedules.{moves};
+ghost use Rattle.ps_cuts.specs.Cuts.{IsOrder, cuts};
+ghost use Rattle.ps_cuts.specs.Runs.{IsToldOf};
 ghost use Rattle.ps_run_options.specs.CommandLine.{IsExploration};
 ghost use Rattle.ps_vault.specs.Reports.{IsWithin};
 ghost use Rattle.ps_run.specs.Driving as driving;
 ghost use Rattle.ps_run.specs.Driving.{IsDriven, IsFileFault, IsRecordName, IsUnread, asked_of, config_in, names_of, records_of};
 ghost use Rattle.ps_run.specs.Orders as orders;
-ghost use Rattle.ps_run.specs.Orders.{AreOrders, AreTold, Orders, report_of};
+ghost use Rattle.ps_run.specs.Orders.{AreCutsTold, AreLinesBehind, AreOrderLines, AreOrders, AreTold, Orders, report_of};
 
 use crate::endings::{ManyRuns, finish_all};
 use crate::files::FileSet;
@@ -14,19 +17,21 @@ use crate::keeping::{Records, keep_program};
 use crate::making::config_of;
 use crate::outputs::{Flushing, Telling};
 use crate::outside::Outside;
+use crate::places::program_name;
 use crate::progress::Progress;
 use crate::reading::read_program;
 use crate::statuses::{Status, called, end};
 use crate::systems::System;
 use ps_ctx::deeds::Deeds;
 use ps_ctx::makers::Makers;
-use ps_cuts::{Ending, Runs, explore_orders};
+use ps_cuts::{Ending, Runs, cuts_of, explore_orders};
 use ps_run_options::{Exploration, Options, OrderBounds};
 use ps_run_schedules::{Schedule, steps_of};
 use ps_searches::{Bounds, Found, Told, Watcher};
 use ps_step_interpreter::interprets::Interpret;
 use ps_vault::{Report, Setup, Task};
 use ps_views::{EndingLine, Reach, append_ending, append_reach};
+use ps_walks::{Rerun, cut_lines_of};
 use std::alloc::{AllocError, Global};
 
 /// Shows how far a search of all orders is.
@@ -58,40 +63,84 @@ fn told_as(behind: usize, ending: &Ending, told: &Told<Schedule>) -> EndingLine
     }
 }
 
-/// Appends the line of each ending. Fails where a growth is refused.
-fn append_endings(found: &Found<Ending, Schedule>, to: &mut Vec<u8>) -> Result<(), AllocError>
-    ensures { OnOk result (to.new.items
-        ≡ to.old.items ++ orders.lines_behind 0 found.now.endings.entries) }
+/// Appends the lines of the cuts of an order, if it has any: its run is made again. Fails for want
+/// of memory; the search had as much for that run.
+fn append_cuts<S: Interpret + Clone + Drop, D: Deeds + Clone + Drop>(
+    runs: &Runs<'_, S, D>,
+    file: &[u8],
+    told: &Told<Schedule>,
+    to: &mut Vec<u8>,
+) -> Result<(), AllocError>
+    requires order { (steps : ℕ) × (steps < 2 ^ 32)
+        × IsOrder runs.now.task.program.now steps told.now.schedule.items }
+    requires costs { cuts runs.now.task.program.now (moves told.now.schedule.items)
+        ≡ told.now.price }
+    ensures { OnOk result ((lines : List ℕ) × (to.new.items ≡ to.old.items ++ lines)
+        × AreCutsTold file.now runs.now.task.program.now told.now.schedule.items lines) }
+{
+    if told.price == 0 {
+        return Ok(());
+    }
+    let cuts = cuts_of(runs, &told.schedule)?;
+    let run = Rerun {
+        makers: runs.makers()?,
+        program: runs.task.program,
+        setup: runs.task.setup,
+        file,
+    };
+    let Ok(lines) = cut_lines_of(runs.alloc, run, told.schedule.entries(), cuts.as_slice()) else {
+        return Err(AllocError);
+    };
+    to.extend_from_slice(lines.as_slice())
+}
+
+/// Appends the line of each ending, and behind it those of its cuts. Fails for want of memory.
+fn append_endings<S: Interpret + Clone + Drop, D: Deeds + Clone + Drop>(
+    runs: &Runs<'_, S, D>,
+    file: &[u8],
+    found: &Found<Ending, Schedule>,
+    to: &mut Vec<u8>,
+) -> Result<(), AllocError>
+    requires { (steps : ℕ) × (steps < 2 ^ 32)
+        × All (IsToldOf runs.now.task.program.now steps) found.now.endings.entries }
+    ensures { OnOk result ((lines : List ℕ) × (to.new.items ≡ to.old.items ++ lines)
+        × AreLinesBehind file.now runs.now.task.program.now 0 found.now.endings.entries lines) }
 {
     for place in 0..found.endings.len() {
         let Some((ending, told)) = found.endings.get_index(place) else {
             unreachable!()
         };
         append_ending(&told_as(place, ending, told), called(ending.outcome), to)?;
+        append_cuts(runs, file, told, to)?;
     }
     Ok(())
 }
 
-/// The lines that tell of orders: which were explored, and how they ended. Fails for want of memory.
-fn lines_of(
-    alloc: Global,
+/// The lines that tell of orders: which were explored, how they ended, and where their cuts are.
+/// Fails for want of memory.
+fn lines_of<S: Interpret + Clone + Drop, D: Deeds + Clone + Drop>(
+    runs: &Runs<'_, S, D>,
+    file: &[u8],
     bounds: OrderBounds,
     found: &Found<Ending, Schedule>,
 ) -> Result<Vec<u8>, AllocError>
-    ensures { IfOk result (λ lines. lines.items ≡ orders.order_lines bounds (record {
-      endings = found.now.endings.entries;
-      below = found.now.below;
-      runs = found.now.runs;
-    })) }
+    requires { (steps : ℕ) × (steps < 2 ^ 32)
+        × All (IsToldOf runs.now.task.program.now steps) found.now.endings.entries }
+    ensures { IfOk result (λ lines. AreOrderLines file.now runs.now.task.program.now bounds
+        (record {
+          endings = found.now.endings.entries;
+          below = found.now.below;
+          runs = found.now.runs;
+        }) lines.items) }
 {
-    let mut lines = Vec::new(alloc);
+    let mut lines = Vec::new(runs.alloc);
     let reach = Reach {
         cuts: bounds.cuts,
         below: found.below,
         runs: found.runs,
     };
     append_reach(reach, &mut lines)?;
-    append_endings(found, &mut lines)?;
+    append_endings(runs, file, found, &mut lines)?;
     Ok(lines)
 }
 
@@ -123,15 +172,17 @@ struct Explored {
     lines: Vec<u8>,
 }
 
-/// Explores the orders of a program's steps within these bounds. Fails for want of memory.
+/// Explores the orders of a program's steps within these bounds; the program's file is called so.
+/// Fails for want of memory.
 fn explore_all<S: Interpret + Clone + Drop, D: Deeds + Clone + Drop, P: Progress + Drop>(
     runs: &Runs<'_, S, D>,
+    file: &[u8],
     steps: u32,
     bounds: OrderBounds,
     progress: P,
 ) -> Result<Explored, AllocError>
     requires some { 1 ≤ bounds.runs }
-    ensures told { IfOk result (λ explored. AreTold runs.now.task.program.now steps bounds
+    ensures told { IfOk result (λ explored. AreTold file.now runs.now.task.program.now steps bounds
         explored.reports.items explored.runs explored.lines.items) }
     ensures some { IfOk result (λ explored. 1 ≤ length explored.reports.items) }
     ensures few { IfOk result (λ explored. length explored.reports.items ≤ bounds.runs) }
@@ -142,7 +193,7 @@ fn explore_all<S: Interpret + Clone + Drop, D: Deeds + Clone + Drop, P: Progress
         runs: u64::from(bounds.runs),
     };
     let found = explore_orders(runs, limits, Shown { progress })?;
-    let lines = lines_of(runs.alloc, bounds, &found)?;
+    let lines = lines_of(runs, file, bounds, &found)?;
     let made = found.runs as u32;
     let reports = reports_of(runs.alloc, found)?;
     Ok(Explored {
@@ -154,7 +205,7 @@ fn explore_all<S: Interpret + Clone + Drop, D: Deeds + Clone + Drop, P: Progress
 
 /// Reads the program, runs it in each order of its steps with at most as many cuts as is asked for,
 /// and writes what the first order printed, the record of an order of each ending where that is
-/// asked for, which orders were explored and how each ending came.
+/// asked for, which orders were explored, how each ending came and where the cuts of its order are.
 pub(crate) fn explore_each_order<
     S: Interpret + Clone + Drop,
     D: Deeds + Clone + Drop,
@@ -206,13 +257,15 @@ pub(crate) fn explore_each_order<
     let bytes = program.as_slice();
     let runs = runs_of(system, makers, bytes, options);
     let progress = outside.err.progress();
-    let Ok(explored) = explore_all(&runs, options.steps, bounds, progress) else {
+    let file = program_name(options);
+    let Ok(explored) = explore_all(&runs, file, options.steps, bounds, progress) else {
         return end(&mut outside.err, Status::Memory);
     };
     let endings = explored.reports.as_slice();
     let records = Records {
         name: options.record_file,
         many: Some(endings.len() as u32),
+        timeline: options.timeline_file,
     };
     if let Err(status) = keep_program(alloc, records, bytes, &outside.files, &mut outside.err) {
         return status;

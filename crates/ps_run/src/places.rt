@@ -48,18 +48,18 @@ pub(crate) struct Again<'a, S: Drop, D: Drop> {
     pub(crate) keys: RandomState,
 }
 
-/// The program once more, where the places of its errors are asked for. Fails for want of memory.
+/// The program once more, where that is asked for. Fails for want of memory.
 pub(crate) fn again_of<'a, S: Clone + Drop, D: Clone + Drop>(
-    options: &Options<'_>,
+    is_asked: bool,
     makers: &Makers<S, D>,
     program: &'a [u8],
     keys: RandomState,
 ) -> Result<Option<Again<'a, S, D>>, AllocError>
-    ensures asked { IfOk result (λ again. is_some again ≡ options.now.places) }
+    ensures asked { IfOk result (λ again. is_some again ≡ is_asked) }
     ensures program { IfOk result
         (λ again. IfSome again (λ one. one.program.now ≡ program.entry.now)) }
 {
-    if !options.places {
+    if !is_asked {
         return Ok(None);
     }
     let makers = Makers {
@@ -71,6 +71,33 @@ pub(crate) fn again_of<'a, S: Clone + Drop, D: Clone + Drop>(
         program,
         keys,
     }))
+}
+
+/// A program that is run again for the places of its errors, and for its picture, where each is asked
+/// for.
+#[derive(Drop)]
+pub(crate) struct Agains<'a, S: Drop, D: Drop> {
+    pub(crate) places: Option<Again<'a, S, D>>,
+    pub(crate) picture: Option<Again<'a, S, D>>,
+}
+
+/// The program once more for each of what is asked for. Fails for want of memory.
+pub(crate) fn agains_of<'a, S: Clone + Drop, D: Clone + Drop>(
+    options: &Options<'_>,
+    makers: &Makers<S, D>,
+    program: &'a [u8],
+    keys: RandomState,
+) -> Result<Agains<'a, S, D>, AllocError>
+    ensures places { IfOk result (λ again. is_some again.places ≡ options.now.places) }
+    ensures picture { IfOk result
+        (λ again. is_some again.picture ≡ is_some options.now.timeline_file) }
+    ensures program { IfOk result
+        (λ again. IfSome again.picture (λ one. one.program.now ≡ program.entry.now)) }
+{
+    Ok(Agains {
+        places: again_of(options.places, makers, program, keys)?,
+        picture: again_of(options.timeline_file.is_some(), makers, program, keys)?,
+    })
 }
 
 /// What the program is called where things in it are told.

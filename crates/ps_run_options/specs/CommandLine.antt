@@ -65,12 +65,12 @@ with_explored app = with_rule
     (with_rule (with_rule app (valued_rule (codes "explore"))) (valued_rule (codes "cuts")))
     (valued_rule (codes "runs"))
 
--- the schedules: the files that have them, behind how many steps of one the state is told, and which
--- are explored
+-- the schedules: the files that have them, what is told of one, the file of a run's picture, and
+-- which schedules are explored
 abbrev pub with_schedules : App → App
-with_schedules app = with_explored (with_rule
+with_schedules app = with_explored (with_rule (with_rule
     (with_rule (with_rule app (valued_rule (codes "record"))) (valued_rule (codes "replay")))
-    (valued_rule (codes "at")))
+    (valued_rule (codes "at"))) (valued_rule (codes "timeline")))
 
 abbrev pub nameless : App → App
 nameless app = record app { top = record app.top { no_binary_name = true } }
@@ -102,14 +102,19 @@ makes_otherwise given = is_set (given (codes "plain")) || is_some (given (codes 
 abbrev pub tells_whole : (given : Text → Option Text) → Bool
 tells_whole given = is_set (given (codes "stream")) || is_set (given (codes "where"))
     || is_set (given (codes "stats")) || is_some (given (codes "output"))
+    || is_some (given (codes "timeline"))
+
+-- what a single run alone has: a stream, places, or a picture
+abbrev pub tells_single : (given : Text → Option Text) → Bool
+tells_single given = is_set (given (codes "stream")) || is_set (given (codes "where"))
+    || is_some (given (codes "timeline"))
 
 -- what is given beside what it can't be used with, by the first text of each option: a schedule
--- beside anything else that says how the run is made or records it; a stream or places beside many
--- runs; a state without a schedule, or beside what is told of a whole run
+-- beside anything else that says how the run is made or records it; a stream, places or a picture
+-- beside many runs; a state without a schedule, or beside what is told of a whole run
 abbrev pub excludes : (given : Text → Option Text) → Bool
 excludes given = is_some (given (codes "replay")) && makes_otherwise given
-    || is_set (given (codes "stream")) && is_some (given (codes "explore"))
-    || is_set (given (codes "where")) && is_some (given (codes "explore"))
+    || is_some (given (codes "explore")) && tells_single given
     || is_some (given (codes "at")) && (is_none (given (codes "replay")) || tells_whole given)
 
 -- all orders are asked for
@@ -146,9 +151,24 @@ overwrites (Some name) None (Some file) = bytes_eq file name
 overwrites (Some prefix) (Some count) (Some file) = is_numbered prefix file
 overwrites _ _ _ = false
 
+-- two names are the same
+abbrev pub is_same : (one other : Option Text) → Bool
+is_same (Some one) (Some other) = bytes_eq one other
+is_same _ _ = false
+
+-- a picture is written to the file of the program, of the record, or of the schedule to follow
+abbrev pub draws_over : (given : Text → Option Text) → Bool
+draws_over given = is_same (given (codes "timeline")) (given (codes "FILE"))
+    || is_same (given (codes "timeline")) (given (codes "record"))
+    || is_same (given (codes "timeline")) (given (codes "replay"))
+
+abbrev pub overwrites_any : (given : Text → Option Text) → Bool
+overwrites_any given =
+    overwrites (given (codes "record")) (given (codes "explore")) (given (codes "FILE"))
+    || draws_over given
+
 abbrev pub is_overwritten : List Text → Bool
-is_overwritten words = overwrites (named_in (codes "record") words)
-    (named_in (codes "explore") words) (named_in (codes "FILE") words)
+is_overwritten words = overwrites_any (λ name. named_in name words)
 
 -- one program is given, by the name of its file or by its text
 abbrev pub source_fault : (file text : Option Text) → Kinds
@@ -226,7 +246,8 @@ pub record AreNumbers (words : List Text) (numbers : Numbers) : Type 0 where
   pub quantum : IsNumber (codes "quantum") words numbers.quantum
   pub steps : numbers.steps ≡ unwrap_or (size_in (codes "steps") words) 1000000000
 
--- which runs are made, where it isn't a single one; the search of all orders makes at most a million
+-- which runs are made, where it isn't a single one; the search of all orders makes at most a
+-- million
 abbrev pub exploration_of : (given : Text → Option Text) → Option Exploration
 exploration_of given = if is_all (given (codes "explore"))
     then option_map (λ most. EachOrder (record {

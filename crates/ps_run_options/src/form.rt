@@ -101,8 +101,8 @@ fn with_flags<'a>(alloc: Global, command: Command<'a>) -> Result<Command<'a>, Al
         ))
 }
 
-/// The schedules: the files that have them, behind how many steps of one the state is told, and which
-/// are explored.
+/// The schedules: the files that have them, what is told of one, the file of a run's picture, and
+/// which schedules are explored.
 fn with_schedules<'a>(alloc: Global, command: Command<'a>) -> Result<Command<'a>, AllocError>
     ensures { IfOk result (λ made. app_of made ≡ spec.with_schedules (app_of command.entry)) }
 {
@@ -127,7 +127,16 @@ fn with_schedules<'a>(alloc: Global, command: Command<'a>) -> Result<Command<'a>
         "write the state behind N steps of that schedule, or for N..M its steps N to M, a line each, \
             in place of what is printed; only with --replay",
     );
-    with_explored(alloc, command.arg(record)?.arg(replay)?.arg(at)?)
+    let timeline = valued(
+        alloc,
+        "timeline",
+        "FILE",
+        "write a picture of the run to FILE, as SVG; not with --explore",
+    );
+    with_explored(
+        alloc,
+        command.arg(record)?.arg(replay)?.arg(at)?.arg(timeline)?,
+    )
 }
 
 /// Which runs are explored, and the bounds of all orders.

@@ -15,6 +15,7 @@ mod options;
 mod sizes;
 mod views;
 
+pub use misuses::OutputFile;
 pub use options::{
     Exploration, Options, OrderBounds, ProgramSource, VERSION, no_text, overwritten, parse,
 };

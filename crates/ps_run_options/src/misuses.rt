@@ -1,6 +1,6 @@
 //! What can't be used beside what in the words of a command line, or without it.
 
-ghost use Rattle.std.specs.Prelude.{◌≡◌, ◌||◌, codes, is_some};
+ghost use Rattle.std.specs.Prelude.{◌≡◌, ◌&&◌, ◌||◌, codes, is_some, option_map};
 ghost use Rattle.clap.specs.Words.{first_value, found_of};
 ghost use Rattle.ps_run_options.specs.CommandLine as spec;
 
@@ -18,7 +18,11 @@ const AT_ALONE: &str = "the argument '--at <N>' cannot be used without '--replay
 
 /// What is told of a state that is asked for beside what is told of a whole run.
 const AT_EXCLUDED: &str = "the argument '--at <N>' cannot be used with '--stream', '--where', \
-    '--stats' or '--output <N>'";
+    '--stats', '--output <N>' or '--timeline <FILE>'";
+
+/// What is told of a picture that is asked for beside many runs.
+const TIMELINE_EXCLUDED: &str = "the argument '--timeline <FILE>' cannot be used with \
+    '--explore <N>'";
 
 /// What is told of a stream that is asked for beside many runs.
 const STREAM_EXCLUDED: &str = "the argument '--stream' cannot be used with '--explore <N>'";
@@ -33,7 +37,30 @@ const CUTS_ALONE: &str = "the argument '--cuts <N>' can only be used with '--exp
 const RUNS_ALONE: &str = "the argument '--runs <N>' can only be used with '--explore all'";
 
 /// What is told of a record that would take the place of the program.
-pub(crate) const OVERWRITTEN: &str = "the argument '--record <FILE>' would write over the program";
+const OVERWRITTEN: &str = "the argument '--record <FILE>' would write over the program";
+
+/// What is told of a picture that would.
+const PROGRAM_DRAWN_OVER: &str = "the argument '--timeline <FILE>' would write over the program";
+
+/// What is told of a picture that would take the place of a schedule.
+const SCHEDULE_DRAWN_OVER: &str = "the argument '--timeline <FILE>' would write over the schedule";
+
+/// A file that a run writes.
+#[derive(Clone, Copy, Debug, PartialEq, Eq)]
+pub enum OutputFile {
+    /// The record of its schedule.
+    Record,
+    /// Its picture.
+    Picture,
+}
+
+/// What is told of such a file that would take the place of the program.
+pub(crate) fn overwriting(written: OutputFile) -> &'static str {
+    match written {
+        OutputFile::Record => OVERWRITTEN,
+        OutputFile::Picture => PROGRAM_DRAWN_OVER,
+    }
+}
 
 /// Whether a flag stands in the words of the matches.
 fn is_set(matches: &ArgMatches<'_>, name: &str) -> bool
@@ -63,6 +90,7 @@ fn tells_whole(matches: &ArgMatches<'_>) -> bool
         || is_set(matches, "where")
         || is_set(matches, "stats")
         || matches.get_str("output").is_some()
+        || matches.get_str("timeline").is_some()
 }
 
 /// Whether all orders are asked for in the words of the matches.
@@ -93,21 +121,36 @@ fn missed(matches: &ArgMatches<'_>) -> Option<&'static str>
     None
 }
 
+/// What is told where the words of the matches ask for many runs, and for what a single one alone
+/// has.
+fn beside_many(matches: &ArgMatches<'_>) -> Option<&'static str>
+    ensures { is_some result ≡ (is_some (first_value (found_of matches.now) (codes "explore"))
+        && spec.tells_single (first_value (found_of matches.now))) }
+{
+    matches.get_str("explore")?;
+    if is_set(matches, "stream") {
+        return Some(STREAM_EXCLUDED);
+    }
+    if is_set(matches, "where") {
+        return Some(WHERE_EXCLUDED);
+    }
+    if matches.get_str("timeline").is_some() {
+        return Some(TIMELINE_EXCLUDED);
+    }
+    None
+}
+
 /// What is told where something is given in the words of the matches beside what it can't be used
 /// with.
 fn excluded(matches: &ArgMatches<'_>) -> Option<&'static str>
     ensures { is_some result ≡ spec.excludes (first_value (found_of matches.now)) }
 {
-    let explores = matches.get_str("explore").is_some();
     let replays = matches.get_str("replay").is_some();
     if replays && makes_otherwise(matches) {
         return Some(REPLAY_EXCLUDED);
     }
-    if is_set(matches, "stream") && explores {
-        return Some(STREAM_EXCLUDED);
-    }
-    if is_set(matches, "where") && explores {
-        return Some(WHERE_EXCLUDED);
+    if let Some(text) = beside_many(matches) {
+        return Some(text);
     }
     if matches.get_str("at").is_none() {
         return None;
@@ -164,7 +207,7 @@ fn is_numbered(name: &str, prefix: &str) -> bool
 }
 
 /// Whether a record that is asked for in the words of the matches takes the place of the program.
-pub(crate) fn is_overwritten(matches: &ArgMatches<'_>) -> bool
+fn is_overwritten(matches: &ArgMatches<'_>) -> bool
     ensures { result ≡ spec.overwrites (first_value (found_of matches.now) (codes "record"))
         (first_value (found_of matches.now) (codes "explore"))
         (first_value (found_of matches.now) (codes "FILE")) }
@@ -177,4 +220,44 @@ pub(crate) fn is_overwritten(matches: &ArgMatches<'_>) -> bool
     } else {
         file == record
     }
+}
+
+/// Whether two names are the same.
+fn is_same(one: Option<&str>, other: Option<&str>) -> bool
+    ensures { result ≡ spec.is_same (option_map (λ name. name.now) one.entry)
+        (option_map (λ name. name.now) other.entry) }
+{
+    match (one, other) {
+        (Some(one), Some(other)) => one == other,
+        _ => false,
+    }
+}
+
+/// What is told where a picture that is asked for in the words of the matches takes the place of a
+/// file that is read or written too.
+fn drawn_over(matches: &ArgMatches<'_>) -> Option<&'static str>
+    ensures { is_some result ≡ spec.draws_over (first_value (found_of matches.now)) }
+{
+    let timeline = matches.get_str("timeline");
+    if is_same(timeline, matches.get_str("FILE")) {
+        return Some(PROGRAM_DRAWN_OVER);
+    }
+    if is_same(timeline, matches.get_str("record")) {
+        return Some(SCHEDULE_DRAWN_OVER);
+    }
+    if is_same(timeline, matches.get_str("replay")) {
+        return Some(SCHEDULE_DRAWN_OVER);
+    }
+    None
+}
+
+/// What is told where a file that is asked for in the words of the matches takes the place of
+/// another that is named there.
+pub(crate) fn overwritten_in(matches: &ArgMatches<'_>) -> Option<&'static str>
+    ensures { is_some result ≡ spec.overwrites_any (first_value (found_of matches.now)) }
+{
+    if is_overwritten(matches) {
+        return Some(OVERWRITTEN);
+    }
+    drawn_over(matches)
 }

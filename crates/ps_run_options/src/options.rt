@@ -10,7 +10,7 @@ ghost use Rattle.ps_run_options.specs.Sources.{file_of, text_of};
 ghost use Rattle.ps_run_options.specs.Views.{is_viewed, view_in as spec_view_in};
 
 use crate::form::command;
-use crate::misuses::{OVERWRITTEN, explores_all, is_overwritten, misused};
+use crate::misuses::{OutputFile, explores_all, misused, overwriting, overwritten_in};
 use crate::sizes::{SizeFault, size_within};
 use crate::views::{View, view_in};
 use clap::error::ErrorKind;
@@ -91,6 +91,9 @@ pub struct Options<'a> {
     /// Which state or which steps of the run under that schedule are told, if any are. Then nothing
     /// else is.
     pub at: Option<View>,
+    /// The name of the file that a picture of the run is written to, if one is. Then it is a single
+    /// run, of which neither a state nor steps are told.
+    pub timeline_file: Option<&'a str>,
     /// Where the program is.
     pub source: ProgramSource<'a>,
 }
@@ -275,20 +278,21 @@ pub fn no_text(alloc: Global) -> Result<Error, AllocError>
     command(alloc)?.error(ErrorKind::InvalidValue, NO_TEXT)
 }
 
-/// The error for a record that would be written over the program. Fails for want of memory.
-pub fn overwritten(alloc: Global) -> Result<Error, AllocError>
+/// The error for a file of a run that would be written over the program. Fails for want of memory.
+pub fn overwritten(alloc: Global, written: OutputFile) -> Result<Error, AllocError>
     ensures { IfOk result (λ error. kind_of error ≡ ErrorKind.ArgumentConflict) }
 {
-    command(alloc)?.error(ErrorKind::ArgumentConflict, OVERWRITTEN)
+    command(alloc)?.error(ErrorKind::ArgumentConflict, overwriting(written))
 }
 
 /// Reads the words of a command line, without the program's name. The error is the first fault of
 /// the words by the rules of the command line; or that they name no program or two; or that the
 /// text of a size is none in its range; or that a schedule is given and `--plain`, `--record`,
-/// `--explore` or `--entries` stands there too, or `--explore` and `--stream` or `--where`, or `--at`
-/// without a schedule, or with `--stream`, `--where`, `--stats` or `--output`; or that all orders are
-/// asked for without `--cuts`, or `--cuts` or `--runs` without them; or that a record would be
-/// written over the program, as far as the names tell; or want of memory.
+/// `--explore` or `--entries` stands there too, or `--explore` and `--stream`, `--where` or
+/// `--timeline`, or `--at` without a schedule, or with `--stream`, `--where`, `--stats`, `--output` or
+/// `--timeline`; or that all orders are asked for without `--cuts`, or `--cuts` or `--runs` without
+/// them; or that a record would be written over the program, or a picture over the program or a
+/// schedule, as far as the names tell; or want of memory.
 pub fn parse<'a>(alloc: Global, words: &'a [&'a str]) -> Result<Options<'a>, Error>
     ensures fault { FailsBy (spec.faults_in (map (λ word. word.now) words.entry.now)) result }
     ensures file { IfOk result (λ options. file_of options.source
@@ -301,6 +305,9 @@ pub fn parse<'a>(alloc: Global, words: &'a [&'a str]) -> Result<Options<'a>, Err
     ensures replay_file { IfOk result
         (λ options. option_map (λ name. name.now) options.replay_file
         ≡ spec.named_in (codes "replay") (map (λ word. word.now) words.entry.now)) }
+    ensures timeline_file { IfOk result
+        (λ options. option_map (λ name. name.now) options.timeline_file
+        ≡ spec.named_in (codes "timeline") (map (λ word. word.now) words.entry.now)) }
     ensures stats { IfOk result (λ options. spec.IsFlag (codes "stats")
         (map (λ word. word.now) words.entry.now) options.stats) }
     ensures plain { IfOk result (λ options. spec.IsFlag (codes "plain")
@@ -341,8 +348,8 @@ pub fn parse<'a>(alloc: Global, words: &'a [&'a str]) -> Result<Options<'a>, Err
     if let Some(text) = misused(&matches) {
         return Err(line.error(ErrorKind::ArgumentConflict, text)?);
     }
-    if is_overwritten(&matches) {
-        return Err(line.error(ErrorKind::ArgumentConflict, OVERWRITTEN)?);
+    if let Some(text) = overwritten_in(&matches) {
+        return Err(line.error(ErrorKind::ArgumentConflict, text)?);
     }
     Ok(Options {
         space: sizes.space,
@@ -359,6 +366,7 @@ pub fn parse<'a>(alloc: Global, words: &'a [&'a str]) -> Result<Options<'a>, Err
         record_file: matches.get_str("record"),
         replay_file: matches.get_str("replay"),
         at: sizes.at,
+        timeline_file: matches.get_str("timeline"),
         source,
     })
 }

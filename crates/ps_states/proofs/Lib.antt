@@ -7,4 +7,5 @@ pub mod Lines
 pub mod Members
 pub mod Named
 pub mod Own
+pub mod Pointing
 pub mod Words

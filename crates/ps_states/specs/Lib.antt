@@ -1,6 +1,8 @@
 pub mod Charts
 pub mod Chosen
+pub mod Cuts
 pub mod Held
+pub mod Moments
 pub mod Next
 pub mod States
 pub mod Statuses

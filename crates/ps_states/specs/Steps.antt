@@ -1,5 +1,5 @@
 -- The lines of the steps of a run.
-use Rattle.std.specs.Prelude.{ℕ, ◌==◌, Bool, true, false, not, Option, Some, None, List, []}
+use Rattle.std.specs.Prelude.{ℕ, ◌==◌, ◌||◌, Bool, true, false, not, Option, Some, None, List, []}
 use Rattle.std.specs.Prelude.{◌∷◌, ◌++◌, length, drop, take, reverse, map, find, nat_lt, codes}
 use Rattle.std.specs.Prelude.{if◌then◌else◌, option_map}
 use Rattle.std.specs.List.{flat_map, join_with_byte, list_any}
@@ -97,18 +97,24 @@ printed_text (byte ∷ bytes) =
 abbrev pub lock_beside : (locks others : List ℕ) → Option ℕ
 lock_beside locks others = find (λ lock. not (list_any (λ other. other == lock) others)) locks
 
+-- whether the line of an error is printed: by a context that has nothing to unwind, if the world
+-- before the step has none
+abbrev pub tells_error : World → Bool
+tells_error after = not (after.error_lines == 0)
+
 -- why it began to unwind for stop: the error that its $error tells as a new one, if there is one
 abbrev pub error_label : World → (identifier : ℕ) → List ℕ
 error_label after identifier =
     label_text (option_map (plain_text after.store) (last_error_name after identifier))
 
 abbrev pub stop_text : World → (identifier : ℕ) → List ℕ
-stop_text after identifier = if has_new_error_at after identifier
+stop_text after identifier = if tells_error after || has_new_error_at after identifier
     then codes "error" ++ error_label after identifier else codes "stops"
 
 abbrev pub stopped : (stops : Bool) → World → (identifier : ℕ) → Option (List ℕ)
 stopped stops after identifier = if stops then None
-    else (if stops_at after identifier then Some (stop_text after identifier) else None)
+    else (if tells_error after || stops_at after identifier
+    then Some (stop_text after identifier) else None)
 
 -- what became of the context
 abbrev pub status_remark : StatusLine → Option (List ℕ)

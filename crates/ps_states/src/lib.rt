@@ -1,5 +1,5 @@
-//! What a run shows of itself: the state of its world behind so many steps, and the line of a step,
-//! as text.
+//! What a run shows of itself: the state of its world behind so many steps, and the lines of a step
+//! and of a cut, as text.
 //!
 //! Why so:
 //! - The text is a function of the world, of the places in its program and of the number of the
@@ -12,10 +12,13 @@
 
 mod charts;
 mod contexts;
+mod cuts;
 mod frames;
 mod locks;
+mod moments;
 mod next;
 mod operands;
+mod presences;
 mod remarks;
 mod stacks;
 mod states;
@@ -24,5 +27,8 @@ mod steps;
 mod values;
 
 pub use charts::Chart;
+pub use cuts::append_cut;
+pub use moments::{Outset, StepEnd, end_of, error_text, moment_of, outset_of};
+pub use presences::{Presence, Related, Tie, push_related, push_started, tell_presences};
 pub use states::{Crowd, StepCount, append_state};
 pub use steps::{Known, StepBy, append_step, known_of};

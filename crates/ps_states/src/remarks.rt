@@ -18,7 +18,7 @@ ghost use Rattle.ps_states.specs.Steps as steps;
 
 use crate::states::Crowd;
 use crate::statuses::status_line;
-use crate::steps::{Known, locks_at, stops_at};
+use crate::steps::{Known, locks_at, stops_at, tells_error};
 use ps_ctx::deeds::Deeds;
 use ps_ctx_readers::contexts::{has_new_error_at, last_error_at};
 use ps_ctx_table::contexts::Contexts;
@@ -93,6 +93,39 @@ fn and_locks(before: &[u64], behind: &[u64], to: &mut Vec<u8>) -> Result<(), All
     and_remark(freed, to)
 }
 
+/// The name of the last error of a context, where it has one. The memory is only read. Fails where a
+/// growth is refused.
+pub(crate) fn last_error_text<M: Memory>(
+    alloc: Global,
+    contexts: &Contexts,
+    identifier: u32,
+    runtime: &mut Runtime<M>,
+) -> Result<Option<Vec<u8>>, AllocError>
+    requires steady { IsSteady (over_of M.heap M.grants runtime.old contexts.now) }
+    ensures heap { M.heap runtime.new.memory ≡ M.heap runtime.old.memory }
+    ensures grants { M.grants runtime.new.memory ≡ M.grants runtime.old.memory }
+    ensures shared { runtime.new.shared ≡ runtime.old.shared }
+    ensures text { (w : World) → IsWorld (over_of M.heap M.grants runtime.old contexts.now) w
+        → IfOk result (λ text. option_map (λ t. t.items) text
+        ≡ option_map (plain_text w.store) (last_error_name w identifier)) }
+{
+    let Some(error) = last_error_at(contexts, identifier, runtime) else {
+        return Ok(None);
+    };
+    let Some(name) = error.name else {
+        return Ok(None);
+    };
+    let mut text = Vec::new(alloc);
+    append_plain(
+        &mut runtime.memory,
+        &runtime.shared.names,
+        name,
+        b"",
+        &mut text,
+    )?;
+    Ok(Some(text))
+}
+
 /// Appends the name of the last error of a context behind a space, where it has one. The memory is
 /// only read. Fails where a growth is refused.
 fn append_error<M: Memory>(
@@ -109,25 +142,14 @@ fn append_error<M: Memory>(
     ensures label { (w : World) → IsWorld (over_of M.heap M.grants runtime.old contexts.now) w
         → OnOk result (to.new.items ≡ to.old.items ++ steps.error_label w identifier) }
 {
-    let Some(error) = last_error_at(contexts, identifier, runtime) else {
-        return Ok(());
-    };
-    let Some(name) = error.name else {
-        return Ok(());
-    };
-    let mut text = Vec::new(alloc);
-    append_plain(
-        &mut runtime.memory,
-        &runtime.shared.names,
-        name,
-        b"",
-        &mut text,
-    )?;
-    append_label(Some(text.as_slice()), to)
+    match last_error_text(alloc, contexts, identifier, runtime)? {
+        Some(text) => append_label(Some(text.as_slice()), to),
+        None => append_label(None, to),
+    }
 }
 
-/// Appends why a context began to unwind for `stop`, where it did; `stops`: whether it was unwinding
-/// before. The memory is only read. Fails where a growth is refused.
+/// Appends why a context began to unwind for `stop`, or ended at once for an error, where it did;
+/// `stops`: whether it was unwinding before. The memory is only read. Fails where a growth is refused.
 fn and_stopped<M: Memory>(
     alloc: Global,
     contexts: &Contexts,
@@ -143,11 +165,12 @@ fn and_stopped<M: Memory>(
         → OnOk result (to.new.items ≡ steps.and_remark to.old.items
         (steps.stopped known.now.stops w known.now.by.context)) }
 {
-    if known.stops || !stops_at(contexts, known.by.context, runtime) {
+    let ends = tells_error(contexts, runtime);
+    if known.stops || !(ends || stops_at(contexts, known.by.context, runtime)) {
         return Ok(());
     }
     separate(to)?;
-    if !has_new_error_at(contexts, known.by.context, runtime) {
+    if !(ends || has_new_error_at(contexts, known.by.context, runtime)) {
         return to.extend_from_slice(b"stops");
     }
     to.extend_from_slice(b"error")?;

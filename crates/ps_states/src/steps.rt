@@ -49,7 +49,7 @@ pub struct Known {
 }
 
 /// What the step of a context does. The memory is only read. Fails where a growth is refused.
-fn step_next<M: Memory, D: Deeds>(
+pub(crate) fn step_next<M: Memory, D: Deeds>(
     chart: &Chart<'_>,
     crowd: &Crowd<'_, D>,
     identifier: u32,
@@ -109,6 +109,14 @@ pub(crate) fn stops_at<M: Memory>(
         Some(Course::Unwinding(Cause::Stop)) => true,
         _ => false,
     }
+}
+
+/// Whether the line of an error was printed.
+pub(crate) fn tells_error<M: Memory>(contexts: &Contexts, runtime: &Runtime<M>) -> bool
+    ensures { (w : World) → IsWorld (over_of M.heap M.grants runtime.now contexts.now) w
+        → result ≡ steps.tells_error w }
+{
+    contexts.has_faulted
 }
 
 /// What is known of a step before it is made. The memory is only read.

@@ -1,11 +1,15 @@
 -- What the picture of a run is, by examples that a near neighbour of the definition fails.
-use Rattle.std.proofs.Common.{◌≡◌, refl, ℕ, [], ◌∷◌, ◌++◌}
+use Rattle.std.proofs.Common.{◌≡◌, refl, ℕ, true, false, [], ◌∷◌, ◌++◌, map}
 use Rattle.std.specs.Prelude.{codes}
 use Rattle.std.specs.Fmt.{decimal}
 use Rattle.ps_timelines.specs.declared.columns.Interval.{Interval}
 use Rattle.ps_timelines.specs.declared.series.Series.TheVariants.{Ready, Lock, Steps, Error}
 use Rattle.ps_timelines.specs.Columns.{columns, covered, share}
-use Rattle.ps_timelines.specs.Lanes.{count, place}
+use Rattle.ps_timelines.specs.Lanes.{all_series, count, place}
+use Rattle.ps_timelines.specs.Moments.{is_marked, stretches}
+use Rattle.ps_timelines.specs.declared.moments.Moment.{Moment}
+use Rattle.ps_timelines.specs.declared.moments.State.{State}
+use Rattle.ps_timelines.specs.declared.moments.State.TheVariants as state
 use Rattle.ps_timelines.specs.Levels.{bar_height, half_height, longest, line_level}
 use Rattle.ps_timelines.specs.Series.{edge_text, column_text, edges_text, line_text, outline_text, path_text}
 use Rattle.ps_timelines.specs.Pictures.{unit, first_unit}
@@ -63,6 +67,35 @@ both_counted = refl
 -- the last step begins a step before the right edge
 last_place : place 4 3 ≡ 750
 last_place = refl
+
+-- ---- what is marked
+
+-- steps one behind another are one stretch, also from the first on and up to the last
+marked_first : stretches 0 (true ∷ true ∷ false ∷ true ∷ []) ≡ interval 0 2 ∷ interval 3 4 ∷ []
+unfolding stretches
+marked_first = refl
+
+marked_last : stretches 7 (false ∷ true ∷ true ∷ true ∷ []) ≡ interval 8 11 ∷ []
+unfolding stretches
+marked_last = refl
+
+none_marked : stretches 0 (false ∷ false ∷ []) ≡ []
+unfolding stretches
+none_marked = refl
+
+-- a context that steps isn't ready besides, but may have a lock
+moment : State → Moment
+moment now = record { state = now; owner = true; prints = false; fails = false }
+
+only_steps : map (λ series. is_marked series (moment state.Steps)) all_series
+    ≡ false ∷ false ∷ false ∷ false ∷ true ∷ true ∷ false ∷ false ∷ []
+unfolding moment
+only_steps = refl
+
+only_owner : map (λ series. is_marked series (moment state.Away)) all_series
+    ≡ false ∷ false ∷ false ∷ false ∷ false ∷ true ∷ false ∷ false ∷ []
+unfolding moment
+only_owner = refl
 
 -- ---- levels
 

@@ -41,7 +41,7 @@ count_text count = number_text (codes "<text x=\"-10\" y=\"28\" class=\"count\">
 
 unfoldable pub head_text : (y : ℕ) → Lane → (steps : ℕ) → List ℕ
 head_text y lane steps = place_text 150 y
-    ++ (name_text lane.context ++ count_text (count steps lane.intervals.steps.now))
+    ++ (name_text lane.context ++ count_text (count steps lane.intervals.steps.items))
 
 -- ---- the errors that are told by their text
 
@@ -54,7 +54,7 @@ label_begin x = if nat_lt x 667
 unfoldable pub label_text : (steps : ℕ) → ErrorLabel → List ℕ
 label_text steps label = label_begin (place steps label.step)
     ++ (number_text (codes "<title>step ") (label.step + 1) (codes "</title>")
-    ++ (escaped label.text.now ++ codes "</text>\n"))
+    ++ (escaped label.text.items ++ codes "</text>\n"))
 
 -- ---- the lane
 
@@ -73,4 +73,4 @@ all_series_text steps drawn =
 -- of the errors the first four are told
 unfoldable pub lane_text : (steps y : ℕ) → Lane → List ℕ
 lane_text steps y lane = head_text y lane steps ++ (all_series_text steps lane.intervals
-    ++ (flat_map (label_text steps) (take 4 lane.labels.now) ++ codes "</g>\n"))
+    ++ (flat_map (label_text steps) (take 4 lane.labels.items) ++ codes "</g>\n"))

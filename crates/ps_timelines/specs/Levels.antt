@@ -31,14 +31,14 @@ line_level longest (suc share) = if suc share == longest then 1 else 0
 
 -- the intervals of a series
 abbrev pub intervals_of : LaneIntervals → Series → List Interval
-intervals_of drawn Ready = drawn.ready.now
-intervals_of drawn Lock = drawn.lock.now
-intervals_of drawn Condition = drawn.condition.now
-intervals_of drawn Join = drawn.join.now
-intervals_of drawn Steps = drawn.steps.now
-intervals_of drawn Owner = drawn.owner.now
-intervals_of drawn Print = drawn.print.now
-intervals_of drawn Error = drawn.error.now
+intervals_of drawn Ready = drawn.ready.items
+intervals_of drawn Lock = drawn.lock.items
+intervals_of drawn Condition = drawn.condition.items
+intervals_of drawn Join = drawn.join.items
+intervals_of drawn Steps = drawn.steps.items
+intervals_of drawn Owner = drawn.owner.items
+intervals_of drawn Print = drawn.print.items
+intervals_of drawn Error = drawn.error.items
 
 -- how high a column is marked of which a series has this share
 abbrev pub level_of : Series → (steps longest share : ℕ) → ℕ
@@ -53,9 +53,9 @@ level_of Error steps longest share = min share 1
 
 -- the share of the state in which a column's context waits or is ready longest
 unfoldable pub longest_share : (steps : ℕ) → LaneIntervals → (column : ℕ) → ℕ
-longest_share steps drawn column = longest steps (share steps drawn.steps.now column)
-    (max (max (max (share steps drawn.ready.now column) (share steps drawn.lock.now column))
-    (share steps drawn.condition.now column)) (share steps drawn.join.now column))
+longest_share steps drawn column = longest steps (share steps drawn.steps.items column)
+    (max (max (max (share steps drawn.ready.items column) (share steps drawn.lock.items column))
+    (share steps drawn.condition.items column)) (share steps drawn.join.items column))
 
 unfoldable pub longest_shares : (steps : ℕ) → LaneIntervals → List ℕ
 longest_shares steps drawn = map (longest_share steps drawn) (range_with_len 0 (columns steps))

@@ -3,6 +3,7 @@ pub mod Columns
 pub mod Keys
 pub mod Lanes
 pub mod Levels
+pub mod Moments
 pub mod Series
 pub mod Pictures
 pub mod Texts

@@ -23,26 +23,26 @@ pub(crate) const NEXT_LANE: usize = 48;
 /// From where on the text of an error stands before it.
 const TEXT_BEFORE: usize = 667;
 /// How many errors of a lane are told by their text.
-const LABELS_SHOWN: usize = 4;
+pub(crate) const LABELS_SHOWN: usize = 4;
 
 /// A step that failed.
-#[derive(Clone, Copy)]
-pub struct ErrorLabel<'a> {
+#[derive(Drop)]
+pub struct ErrorLabel {
     /// How many steps of the run come before it.
     pub step: u32,
     /// What is told of it, such as the error's name.
-    pub text: &'a [u8],
+    pub text: Vec<u8>,
 }
 
 /// What a context does in the course of a run.
-#[derive(Clone, Copy)]
-pub struct Lane<'a> {
+#[derive(Drop)]
+pub struct Lane {
     /// Its identifier.
     pub context: u32,
-    pub intervals: LaneIntervals<'a>,
+    pub intervals: LaneIntervals,
     /// The errors that are told by their text, by rising step. Of more than four the first four are
     /// told.
-    pub labels: &'a [ErrorLabel<'a>],
+    pub labels: Vec<ErrorLabel>,
 }
 
 /// What lanes are drawn by.
@@ -129,18 +129,18 @@ fn append_label_begin(steps: u32, step: u32, to: &mut Vec<u8>) -> Result<(), All
 
 /// Appends the text of an error.
 #[tactic(auto, unfolding(crate::specs::Lanes::label_text))]
-fn append_label(steps: u32, label: &ErrorLabel<'_>, to: &mut Vec<u8>) -> Result<(), AllocError>
+fn append_label(steps: u32, label: &ErrorLabel, to: &mut Vec<u8>) -> Result<(), AllocError>
     ensures appended { OnOk result (to.new.items ≡ to.old.items ++ label_text steps label.now) }
     ensures front { take (length to.old.items) to.new.items ≡ to.old.items }
 {
     append_label_begin(steps, label.step, to)?;
     append_between(b"<title>step ", label.step as usize + 1, b"</title>", to)?;
-    append_escaped(label.text, to)?;
+    append_escaped(label.text.as_slice(), to)?;
     append(b"</text>\n", to)
 }
 
 /// Appends the texts of errors, one behind another.
-fn append_labels(steps: u32, labels: &[ErrorLabel<'_>], to: &mut Vec<u8>) -> Result<(), AllocError>
+fn append_labels(steps: u32, labels: &[ErrorLabel], to: &mut Vec<u8>) -> Result<(), AllocError>
     ensures appended { OnOk result
         (to.new.items ≡ to.old.items ++ flat_map (label_text steps) labels.now) }
     ensures front { take (length to.old.items) to.new.items ≡ to.old.items }
@@ -153,19 +153,19 @@ fn append_labels(steps: u32, labels: &[ErrorLabel<'_>], to: &mut Vec<u8>) -> Res
 
 /// Appends what stands before a lane.
 #[tactic(auto, unfolding(crate::specs::Lanes::head_text))]
-fn append_head(y: usize, lane: &Lane<'_>, steps: u32, to: &mut Vec<u8>) -> Result<(), AllocError>
+fn append_head(y: usize, lane: &Lane, steps: u32, to: &mut Vec<u8>) -> Result<(), AllocError>
     ensures appended { OnOk result (to.new.items ≡ to.old.items ++ head_text y lane.now steps) }
     ensures front { take (length to.old.items) to.new.items ≡ to.old.items }
 {
     append_place(LANES_LEFT, y, to)?;
     append_name(lane.context, to)?;
-    append_count(count(steps, lane.intervals.steps), to)
+    append_count(count(steps, lane.intervals.steps.as_slice()), to)
 }
 
 /// Appends the path of a series.
 fn append_series(
     scale: Scale,
-    drawn: &LaneIntervals<'_>,
+    drawn: &LaneIntervals,
     longests: &[usize],
     series: Series,
     to: &mut Vec<u8>,
@@ -183,7 +183,7 @@ fn append_series(
 /// Appends the paths of series, one upon another.
 fn append_each_series(
     scale: Scale,
-    drawn: &LaneIntervals<'_>,
+    drawn: &LaneIntervals,
     longests: &[usize],
     all_series: &[Series],
     to: &mut Vec<u8>,
@@ -202,7 +202,7 @@ fn append_each_series(
 /// Appends the paths of all series.
 fn append_all_series(
     scale: Scale,
-    drawn: &LaneIntervals<'_>,
+    drawn: &LaneIntervals,
     to: &mut Vec<u8>,
 ) -> Result<(), AllocError>
     ensures appended { OnOk result
@@ -214,7 +214,7 @@ fn append_all_series(
 }
 
 /// Appends the texts of the first errors.
-fn append_told(steps: u32, labels: &[ErrorLabel<'_>], to: &mut Vec<u8>) -> Result<(), AllocError>
+fn append_told(steps: u32, labels: &[ErrorLabel], to: &mut Vec<u8>) -> Result<(), AllocError>
     ensures appended { OnOk result
         (to.new.items ≡ to.old.items ++ flat_map (label_text steps) (take 4 labels.now)) }
     ensures front { take (length to.old.items) to.new.items ≡ to.old.items }
@@ -228,7 +228,7 @@ fn append_told(steps: u32, labels: &[ErrorLabel<'_>], to: &mut Vec<u8>) -> Resul
 pub(crate) fn append_lane(
     scale: Scale,
     y: usize,
-    lane: &Lane<'_>,
+    lane: &Lane,
     to: &mut Vec<u8>,
 ) -> Result<(), AllocError>
     ensures appended { OnOk result
@@ -237,6 +237,6 @@ pub(crate) fn append_lane(
 {
     append_head(y, lane, scale.steps, to)?;
     append_all_series(scale, &lane.intervals, to)?;
-    append_told(scale.steps, lane.labels, to)?;
+    append_told(scale.steps, lane.labels.as_slice(), to)?;
     append(b"</g>\n", to)
 }

@@ -60,33 +60,33 @@ fn line_level(longest: usize, share: usize) -> usize
 /// What a context does, as its lane shows it: for each state the intervals of steps in which it is
 /// in that state. Those of `steps` are the steps that it makes itself, and those of `owner` where
 /// it has a lock; in the other states it isn't stepping.
-#[derive(Clone, Copy)]
-pub struct LaneIntervals<'a> {
-    pub steps: &'a [Interval],
+#[derive(Drop)]
+pub struct LaneIntervals {
+    pub steps: Vec<Interval>,
     /// It may go on, and another does.
-    pub ready: &'a [Interval],
-    pub lock: &'a [Interval],
-    pub condition: &'a [Interval],
-    pub join: &'a [Interval],
-    pub owner: &'a [Interval],
+    pub ready: Vec<Interval>,
+    pub lock: Vec<Interval>,
+    pub condition: Vec<Interval>,
+    pub join: Vec<Interval>,
+    pub owner: Vec<Interval>,
     /// The steps that print, and those that fail.
-    pub print: &'a [Interval],
-    pub error: &'a [Interval],
+    pub print: Vec<Interval>,
+    pub error: Vec<Interval>,
 }
 
 /// The intervals of a series.
-pub(crate) fn intervals_of<'a>(drawn: &LaneIntervals<'a>, series: Series) -> &'a [Interval]
+pub(crate) fn intervals_of(drawn: &LaneIntervals, series: Series) -> &[Interval]
     ensures { result.now ≡ levels.intervals_of drawn.now series }
 {
     match series {
-        Series::Ready => drawn.ready,
-        Series::Lock => drawn.lock,
-        Series::Condition => drawn.condition,
-        Series::Join => drawn.join,
-        Series::Steps => drawn.steps,
-        Series::Owner => drawn.owner,
-        Series::Print => drawn.print,
-        Series::Error => drawn.error,
+        Series::Ready => drawn.ready.as_slice(),
+        Series::Lock => drawn.lock.as_slice(),
+        Series::Condition => drawn.condition.as_slice(),
+        Series::Join => drawn.join.as_slice(),
+        Series::Steps => drawn.steps.as_slice(),
+        Series::Owner => drawn.owner.as_slice(),
+        Series::Print => drawn.print.as_slice(),
+        Series::Error => drawn.error.as_slice(),
     }
 }
 
@@ -109,15 +109,15 @@ fn level_of(series: Series, steps: u32, longest: usize, share: usize) -> usize
 pub(crate) fn longest_shares(
     alloc: Global,
     steps: u32,
-    drawn: &LaneIntervals<'_>,
+    drawn: &LaneIntervals,
 ) -> Result<Vec<usize>, AllocError>
     ensures { IfOk result (λ shares. shares.items ≡ levels.longest_shares steps drawn.now) }
 {
-    let stepping = shares(alloc, steps, drawn.steps)?;
-    let mut longests = shares(alloc, steps, drawn.ready)?;
-    let lock = shares(alloc, steps, drawn.lock)?;
-    let condition = shares(alloc, steps, drawn.condition)?;
-    let join = shares(alloc, steps, drawn.join)?;
+    let stepping = shares(alloc, steps, drawn.steps.as_slice())?;
+    let mut longests = shares(alloc, steps, drawn.ready.as_slice())?;
+    let lock = shares(alloc, steps, drawn.lock.as_slice())?;
+    let condition = shares(alloc, steps, drawn.condition.as_slice())?;
+    let join = shares(alloc, steps, drawn.join.as_slice())?;
     for column in 0..columns(steps) {
         let greatest = longests[column]
             .max(lock[column])

@@ -20,6 +20,8 @@ mod columns;
 mod keys;
 mod lanes;
 mod levels;
+mod moments;
+mod notes;
 mod pictures;
 mod series;
 
@@ -27,4 +29,5 @@ pub use arrows::Arrow;
 pub use columns::Interval;
 pub use lanes::{ErrorLabel, Lane};
 pub use levels::LaneIntervals;
+pub use moments::{Moment, State};
 pub use pictures::{Timeline, append_picture};

@@ -60,7 +60,7 @@ pub struct Timeline<'a> {
     /// How it ended, in words.
     pub outcome: &'a [u8],
     /// A lane for each context, by rising identifier.
-    pub lanes: &'a [Lane<'a>],
+    pub lanes: &'a [Lane],
     /// From who starts a context, joins it or notifies it, to that context. Of a kind that has more
     /// than 150 none are drawn.
     pub forks: &'a [Arrow],
@@ -182,7 +182,7 @@ fn append_axis(height: usize, to: &mut Vec<u8>) -> Result<(), AllocError>
 }
 
 /// Appends the lanes, one below another.
-fn append_lanes(scale: Scale, lanes: &[Lane<'_>], to: &mut Vec<u8>) -> Result<(), AllocError>
+fn append_lanes(scale: Scale, lanes: &[Lane], to: &mut Vec<u8>) -> Result<(), AllocError>
     ensures appended { OnOk result
         (to.new.items ≡ to.old.items ++ lanes_text scale.steps 70 lanes.now) }
     ensures front { take (length to.old.items) to.new.items ≡ to.old.items }

@@ -1,6 +1,7 @@
 -- The line that tells a cut: who was due and is left, and who goes on in its place.
-use Rattle.std.specs.Prelude.{ℕ, List, [], ◌++◌, codes}
+use Rattle.std.specs.Prelude.{ℕ, ◌≤◌, ⊤, List, [], ◌∷◌, ◌++◌, codes}
 use Rattle.std.specs.Fmt.{decimal}
+use Rattle.ps_views.specs.declared.cuts.CutAt.{CutAt}
 use Rattle.ps_views.specs.declared.cuts.CutLine.{CutLine}
 use Rattle.ps_views.specs.declared.cuts.Turn.{Turn}
 use Rattle.ps_views.specs.declared.frames.Coming.{Coming}
@@ -41,3 +42,8 @@ goes_text file other = codes "; context " ++ (decimal other.context ++ (codes " 
 unfoldable pub cut_line : (file : List ℕ) → CutLine → (value : List ℕ) → List ℕ
 cut_line file cut value = behind_text cut ++ (left_text file cut.left value
     ++ (goes_text file cut.other ++ codes "\n"))
+
+-- each is behind as many steps as the one before it, or more; the first behind so many
+abbrev pub AreRising : (from : ℕ) → List CutAt → Type 0
+AreRising from [] = ⊤
+AreRising from (cut ∷ cuts) = (from ≤ cut.behind) × AreRising cut.behind cuts

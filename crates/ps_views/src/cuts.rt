@@ -12,6 +12,17 @@ use std::alloc::AllocError;
 /// How many bytes of the text of a value are shown.
 const VALUE_BYTES: usize = 30;
 
+/// Where a cut is in a schedule.
+#[derive(Clone, Copy, Debug, PartialEq, Eq)]
+pub struct CutAt {
+    /// Behind how many steps.
+    pub behind: u64,
+    /// The identifier of the context that was due.
+    pub left: u32,
+    /// That of the context that stepped.
+    pub other: u32,
+}
+
 /// A context that could step.
 #[derive(Clone, Copy, Debug, PartialEq, Eq)]
 pub struct Turn {

@@ -21,7 +21,7 @@ mod states;
 mod steps;
 
 pub use bytes::{append, append_number};
-pub use cuts::{CutLine, Turn, append_cut_line};
+pub use cuts::{CutAt, CutLine, Turn, append_cut_line};
 pub use frames::{Coming, FrameLine, append_frame};
 pub use lines::append_label;
 pub use orders::{EndingLine, Reach, append_ending, append_reach};

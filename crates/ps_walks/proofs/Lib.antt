@@ -1,3 +1,5 @@
+pub mod Cutting
+pub mod Drawing
 pub mod Following
 pub mod Knowing
 pub mod Lining

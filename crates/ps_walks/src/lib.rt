@@ -15,6 +15,8 @@
 #![tactic(auto)]
 
 mod before;
+mod cuts;
+mod drawn;
 mod errors;
 mod kept;
 mod raised;
@@ -24,8 +26,11 @@ mod step_lines;
 mod stops;
 mod taken;
 mod telling;
+mod timelines;
 mod walks;
 
+pub use cuts::cut_lines_of;
 pub use raised::RaisedAt;
 pub use step_lines::{StepRange, step_lines_of};
+pub use timelines::timeline_of;
 pub use walks::{Rerun, WalkFault, places_of, raised_at, state_of};

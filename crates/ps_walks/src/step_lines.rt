@@ -28,9 +28,9 @@ pub struct StepRange {
 
 /// Where texts are made, and what the program's file is called in them.
 #[derive(Clone, Copy)]
-struct Scribe<'t> {
-    alloc: Global,
-    file: &'t [u8],
+pub(crate) struct Scribe<'t> {
+    pub(crate) alloc: Global,
+    pub(crate) file: &'t [u8],
 }
 
 /// The lines of steps of a run, by its schedule; no more where the schedule ends before. The faults

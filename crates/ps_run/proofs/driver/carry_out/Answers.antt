@@ -29,3 +29,12 @@ returns-in-Some-ByChance-clause-run g c = driven_more _ _ _ _ _ _ _ _ _ refl (λ
 pub returns-in-Some-EachOrder-clause-run : goal.returns-in-Some-EachOrder-clause-run
 returns-in-Some-EachOrder-clause-run g c = driven_more _ _ _ _ _ _ _ _ _ refl (λ asked is. is)
     (λ fault. inl fault) c.explore_each_order-status.ensures.run
+
+-- the files that many runs write are those of their records
+pub returns-in-Some-ByChance-clause-files : goal.returns-in-Some-ByChance-clause-files
+returns-in-Some-ByChance-clause-files g c = λ name other.
+    c.explore-status.ensures.files name (λ is. other (inl is))
+
+pub returns-in-Some-EachOrder-clause-files : goal.returns-in-Some-EachOrder-clause-files
+returns-in-Some-EachOrder-clause-files g c = λ name other.
+    c.explore_each_order-status.ensures.files name (λ is. other (inl is))

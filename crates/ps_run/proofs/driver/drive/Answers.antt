@@ -8,7 +8,7 @@ use Rattle.ps_run.specs.Driving as driving
 use Rattle.ps_run.specs.Telling.{Told}
 use Rattle.ps_run.specs.declared.files.ReadFault.{ReadFault}
 use Rattle.ps_run.specs.declared.statuses.Status.{Status}
-use Rattle.ps_run.proofs.Driven.{driven_more, faulty, record_named}
+use Rattle.ps_run.proofs.Driven.{driven_more, faulty, written_named}
 use Rattle.ps_run.proofs.ReadParts.{if_mapped}
 use Rattle.ps_run.proofs.driver.drive.Given as givens
 use Rattle.ps_run.proofs.driver.drive.Goals as goal
@@ -23,6 +23,7 @@ same_names g c = λ i. record {
   text = c.in-Ok.ensures.text i;
   recorded = c.in-Ok.ensures.record_file i;
   replayed = c.in-Ok.ensures.replay_file i;
+  drawn = c.in-Ok.ensures.timeline_file i;
 }
 
 are_asked : (g : givens.Over) (c : In-Ok g) (asked : Asked) → asked ≡ asked_of c.in-Ok.options
@@ -101,7 +102,8 @@ pub returns-in-Ok-clause-files : goal.returns-in-Ok-clause-files
 returns-in-Ok-clause-files g c = λ name other.
     let at = (goal.at.returns-in-Ok-clause-files g c).In-Ok in
     c.carry_out-status.ensures.files name (λ is.
-    other (record_named _ _ _ _ name c.in-Ok.ensures.record_file (records_are g at) is))
+    other (written_named _ _ _ _ _ _ name c.in-Ok.ensures.record_file c.in-Ok.ensures.timeline_file
+    (records_are g at) is))
 
 pub returns-in-Ok-clause-unread : goal.returns-in-Ok-clause-unread
 returns-in-Ok-clause-unread g c = λ none.

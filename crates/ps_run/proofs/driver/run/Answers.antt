@@ -1,7 +1,7 @@
-use Rattle.std.proofs.Common.{◌≡◌, ℕ, List, Option, None, inl, inr, refl, sym, ap, subst, ◌∙◌}
-use Rattle.std.specs.Prelude.{option_map}
+use Rattle.std.proofs.Common.{◌≡◌, ℕ, Bool, true, false, List, Option, None, inl, inr, refl, sym, ap, subst, ◌∙◌}
+use Rattle.std.specs.Prelude.{◌⊎◌, option_map}
 use Rattle.ps_vault.specs.Screens.{HasShown, HasShownSome}
-use Rattle.ps_run.specs.Driving.{Asked, Contents, IsGiven, asked_of, line_of, names_of}
+use Rattle.ps_run.specs.Driving.{Asked, Contents, IsGiven, IsWrittenName, asked_of, line_of, names_of}
 use Rattle.ps_run.specs.Telling.{Tells, Told}
 use Rattle.ps_run.specs.declared.statuses.Status.TheVariants as status
 use Rattle.ps_run.proofs.Driven.{keeps_program, written_from}
@@ -42,16 +42,26 @@ returns-in-Ok-report-clause-run g c =
       };
       places = c.text.result.now;
       are_places = rw c.text.ensures c.places_in-places.ensures;
+      ended = record {
+        status = c.finish-status.result.0;
+        err = g.X.Telling.told c.finish-status.new.outside.err;
+        files = g.F.FileSet.contents c.finish-status.new.outside.files;
+      };
       written =
           written_from _ _ _ _ report _ _ _ _
           (ap g.X.Telling.told (c.in-Ok-read_given.ensures.told
           ∙ (c.in_default.ensures.told ∙ c.in-Ok.ensures.told)))
           (c.in-Ok-read_given.ensures.kept ∙ c.in-Ok.ensures.kept)
-          (c.finish.ensures.written first seen);
-      keeps = keeps_program _ _ (names_of c.args.options.now).recorded None c.in-Ok.program.items
+          (c.finish-status.ensures.written first seen);
+      drawn = c.draw.ensures.drawn c.in-Ok.program.items
+          (rw c.as_slice-bytes.ensures.value at c.in-Ok-agains_of.ensures.program);
+      others = λ name apart. c.draw.ensures.others name apart;
+      keeps = keeps_program _ _ (IsWrittenName (names_of c.args.options.now).recorded
+          (names_of c.args.options.now).drawn None) c.in-Ok.program.items
           (λ name is. rw (c.as_slice-bytes.ensures.value, c.in-Ok.ensures.kept) at
           (c.in_default.ensures.kept name is))
-          (λ name other. c.finish.ensures.others name other
+          (λ name other. c.draw.ensures.others name (λ is. other (inr is))
+          ∙ c.finish-status.ensures.others name (λ is. other (inl is))
           ∙ ap (λ (contents : Contents). contents name)
           (c.in-Ok-read_given.ensures.kept ∙ c.in-Ok.ensures.kept));
     })))
@@ -75,3 +85,24 @@ returns-in-Err-Memory-clause-run g c =
           (ap g.X.Telling.told (c.in-Ok-read_given.ensures.told
           ∙ (c.in_default.ensures.told ∙ c.in-Ok.ensures.told))) c.end-in-Err-Memory.ensures.told,
     ))
+
+-- the files that aren't written are as they were
+pub returns-in-Ok-report-clause-files : goal.returns-in-Ok-report-clause-files
+returns-in-Ok-report-clause-files g c = λ name other.
+    c.draw.ensures.others name (λ is. other (inr is))
+    ∙ c.finish-status.ensures.others name (λ is. other (inl is))
+    ∙ ap (λ (contents : Contents). contents name)
+    (c.in-Ok-read_given.ensures.kept ∙ c.in-Ok.ensures.kept)
+
+either : (b : Bool) → (b ≡ true) ⊎ (b ≡ false)
+either true = inl refl
+either false = inr refl
+
+-- where the record failed the picture may have been written
+pub returns-in-Ok-report-clause-unwritten : goal.returns-in-Ok-report-clause-unwritten
+returns-in-Ok-report-clause-unwritten g c = λ before after.
+    let start = c.in-Ok-read_given.ensures.writes ∙ c.in-Ok.ensures.writes ∙ before in
+    elim (either (g.F.FileSet.is_unwritten c.finish-status.new.outside.files)) [
+      | inl failed ↦ c.draw.ensures.usage (c.finish-status.ensures.unwritten start failed)
+      | inr kept ↦ c.draw.ensures.unwritten kept after
+    ]

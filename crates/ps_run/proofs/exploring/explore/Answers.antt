@@ -65,11 +65,10 @@ returns-in-Ok-made-clause-run g c =
           (ap g.X.Telling.told (c.in_default-keep_program.ensures.told ∙ c.in-Ok.ensures.told))
           c.in-Ok.ensures.kept (rw c.as_slice.ensures.value at c.finish_all.ensures.written);
       keeps =
-          keeps_program _ _ (names_of c.args.options.now).recorded (Some c.in-Some-ByChance.runs)
-          c.in-Ok.program.items
+          keeps_program _ _ (IsRecordName (names_of c.args.options.now).recorded
+          (Some c.in-Some-ByChance.runs)) c.in-Ok.program.items
           (λ name is. rw (c.as_slice-bytes.ensures.value, c.in-Ok.ensures.kept) at
-          (c.in_default-keep_program.ensures.kept name
-          is))
+          (c.in_default-keep_program.ensures.kept name (inl is)))
           (λ name other. c.finish_all.ensures.others name (λ is.
           other (record_fewer _ _ c.in-Some-ByChance.runs name fewer is))
           ∙ ap (λ (contents : Contents). contents name) c.in-Ok.ensures.kept);

@@ -1,8 +1,16 @@
 -- What a search promises, and what is made of it.
-use Rattle.std.proofs.Common.{◌∙◌, ℕ, ap, arith, length}
+use Rattle.std.proofs.Common.{rules, ◌∙◌, ◌<◌, ◌^◌, ℕ, ap, arith, length}
 use Rattle.ps_run.specs.Orders.{AreOrders}
 use Rattle.ps_run.proofs.EachOrder.{length_reports}
 use Rattle.ps_run.proofs.orders.explore_all.Goals as goal
+
+pub lines_of-requires : goal.lines_of-requires
+lines_of-requires g c =
+    let few : c.args.steps < 2 ^ 32 = search rules in (
+      c.args.steps,
+      few,
+      c.in_ok-found.ensures.each,
+    )
 
 pub returns-clause-told : goal.returns-clause-told
 returns-clause-told g c =

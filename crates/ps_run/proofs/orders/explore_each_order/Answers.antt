@@ -1,10 +1,10 @@
 use Rattle.std.proofs.Common.{rules, ◌≡◌, ◌≤◌, ◌∙◌, ℕ, Option, Some, inl, inr, refl, sym, ap, subst, arith, length}
 use Rattle.std.specs.Prelude.{List, map, option_map}
 use Rattle.ps_run_options.specs.declared.options.Exploration.TheVariants.{EachOrder}
-use Rattle.ps_run.specs.Driving.{Contents, IsRecordName, asked_of, line_of, most_endings, names_of}
+use Rattle.ps_run.specs.Driving.{Contents, IsRecordName, asked_of, line_of, most_endings, names_of, program_name}
 use Rattle.ps_run.specs.Telling.{Tells, Told}
 use Rattle.ps_run.specs.declared.statuses.Status.TheVariants as status
-use Rattle.ps_run.specs.Orders.{AreTold, order_lines, report_of}
+use Rattle.ps_run.specs.Orders.{AreTold, report_of}
 use Rattle.ps_run.proofs.Driven.{keeps_program}
 use Rattle.ps_run.proofs.ManyRuns.{all_written_as, all_written_from, record_fewer}
 use Rattle.ps_run.proofs.orders.explore_each_order.Goals as goal
@@ -13,11 +13,16 @@ pub returns-clause-run : goal.returns-clause-run
 returns-clause-run g c =
     let is-all : c.args.options.now.explore ≡ Some (EachOrder c.in-Some-EachOrder.bounds) = search rules in
     let explored = c.in-Ok-explore_all.explored in
-    let told : AreTold c.in-Ok.program.items c.args.options.now.steps c.in-Some-EachOrder.bounds
+    let file = program_name (names_of c.args.options.now) in
+    let told : AreTold file c.in-Ok.program.items c.args.options.now.steps c.in-Some-EachOrder.bounds
     explored.reports.items explored.runs explored.lines.items =
-    subst (λ (program : List ℕ). AreTold program c.args.options.now.steps c.in-Some-EachOrder.bounds
-    explored.reports.items explored.runs explored.lines.items)
-    (c.runs_of-runs.ensures ∙ c.as_slice-bytes.ensures.value) c.in-Ok-explore_all.ensures.told in
+    subst (λ (name : List ℕ). AreTold name c.in-Ok.program.items c.args.options.now.steps
+    c.in-Some-EachOrder.bounds explored.reports.items explored.runs explored.lines.items)
+    c.program_name-file.ensures
+    (subst (λ (program : List ℕ). AreTold c.program_name-file.result.now program
+    c.args.options.now.steps c.in-Some-EachOrder.bounds explored.reports.items explored.runs
+    explored.lines.items)
+    (c.runs_of-runs.ensures ∙ c.as_slice-bytes.ensures.value) c.in-Ok-explore_all.ensures.told) in
     inr (inr (inr (inr (inl (record {
       asked = asked_of c.args.options.now;
       is_asked = refl;
@@ -27,20 +32,22 @@ returns-clause-run g c =
       is_program = c.in-Ok.ensures.program;
       orders = told.orders;
       are = told.are;
+      lines = explored.lines.items;
+      are_lines = told.are_lines;
       written =
           all_written_from (names_of c.args.options.now).recorded told.orders.runs
-          (map report_of told.orders.endings) (order_lines c.in-Some-EachOrder.bounds told.orders)
+          (map report_of told.orders.endings) explored.lines.items
           _ _ _ _
           (ap g.X.Telling.told (c.in_default-keep_program.ensures.told ∙ c.in-Ok.ensures.told))
           c.in-Ok.ensures.kept
           (all_written_as _ _ _ _ _ _ _ _ _ told.are_runs
           (c.as_slice-endings.ensures.value ∙ told.are_reports)
-          (c.as_slice.ensures.value ∙ told.are_lines) c.finish_all.ensures.written);
+          c.as_slice.ensures.value c.finish_all.ensures.written);
       keeps =
-          keeps_program _ _ (names_of c.args.options.now).recorded
-          (Some (length c.as_slice-endings.result.now)) c.in-Ok.program.items
+          keeps_program _ _ (IsRecordName (names_of c.args.options.now).recorded
+          (Some (length c.as_slice-endings.result.now))) c.in-Ok.program.items
           (λ name is. rw (c.as_slice-bytes.ensures.value, c.in-Ok.ensures.kept) at
-          (c.in_default-keep_program.ensures.kept name is))
+          (c.in_default-keep_program.ensures.kept name (inl is)))
           (λ name other. c.finish_all.ensures.others name other
           ∙ ap (λ (contents : Contents). contents name) c.in-Ok.ensures.kept);
     })))))
@@ -83,10 +90,13 @@ returns-in-Err-keep_program-clause-run g c =
           program = c.in-Ok.program.items;
           is_program = c.in-Ok.ensures.program;
           name = over.1;
-          is_record = subst (λ (many : Option ℕ).
-              IsRecordName (names_of c.args.options.now).recorded many over.1)
-              (ap (option_map most_endings) (sym is-all))
-              (record_fewer _ _ c.in-Some-EachOrder.bounds.runs over.1 fewer over.2);
+          is_written = elim over.2 [
+            | inl record_is ↦ inl (subst (λ (many : Option ℕ).
+                IsRecordName (names_of c.args.options.now).recorded many over.1)
+                (ap (option_map most_endings) (sym is-all))
+                (record_fewer _ _ c.in-Some-EachOrder.bounds.runs over.1 fewer record_is))
+            | inr picture_is ↦ inr picture_is
+          ];
           holds = rw (c.as_slice-bytes.ensures.value, c.in-Ok.ensures.kept) at over.3;
         }))),
       )

@@ -9,7 +9,7 @@ use Rattle.clap.specs.declared.builder.command.Command.{Command}
 use Rattle.clap.specs.declared.parser.matches.ArgMatches.{ArgMatches}
 use Rattle.clap.proofs.OnLiterals.{clap_on_literals}
 use Rattle.clap.proofs.WalkLemmas.{first_value-rows, one_text-rows}
-use Rattle.ps_run_options.specs.CommandLine.{are_explored, are_sized, are_sizes, exploration_of, misses, command_line, faults_in, flag_in, excludes, is_excluded, named_in, overwrites, is_overwritten, own_faults, source_fault, tells_whole}
+use Rattle.ps_run_options.specs.CommandLine.{are_explored, are_sized, are_sizes, exploration_of, misses, command_line, faults_in, flag_in, excludes, is_excluded, named_in, overwrites_any, is_overwritten, own_faults, source_fault, tells_whole}
 use Rattle.ps_run_options.specs.Sizes.{size_of}
 use Rattle.ps_run_options.specs.Views.{view_in}
 use Rattle.ps_run_options.specs.declared.views.View.{View}
@@ -80,17 +80,12 @@ excluded_is made words m is has =
     λ i. excludes (λ name. name_is made words m name is has i)
     || misses (λ name. name_is made words m name is has i)
 
--- whether a record is written over the program
+-- whether a file is written over another that is named
 overwritten_is : (made : Command) (words : List Text) (m : ArgMatches)
     → app_of made ≡ command_line → HasMatchesOf (app_of made) words m
-    → overwrites (first_value (found_of m) (codes "record"))
-    (first_value (found_of m) (codes "explore")) (first_value (found_of m) (codes "FILE"))
-    ≡ is_overwritten words
+    → overwrites_any (first_value (found_of m)) ≡ is_overwritten words
 overwritten_is made words m is has =
-    let recorded = name_is made words m (codes "record") is has in
-    let explored = name_is made words m (codes "explore") is has in
-    let file = name_is made words m (codes "FILE") is has in
-    λ i. overwrites (recorded i) (explored i) (file i)
+    λ i. overwrites_any (λ name. name_is made words m name is has i)
 
 -- whether one program is named
 source_is : (made : Command) (words : List Text) (m : ArgMatches) → app_of made ≡ command_line
@@ -182,14 +177,15 @@ returns-in-Some-clause-fault c =
     subst (λ (kinds : Kinds). HasKind kinds c.in_ok-error.field-0) (sym faults)
     (inr (inl c.in_ok-error.ensures.kind))
 
-pub returns-then-is_overwritten-clause-fault : goal.returns-then-is_overwritten-clause-fault
-returns-then-is_overwritten-clause-fault c =
+pub returns-in-Some-overwritten_in-clause-fault : goal.returns-in-Some-overwritten_in-clause-fault
+returns-in-Some-overwritten_in-clause-fault c =
     let words : List Text = map {A = Bor Text} {B = Text} (λ (word : Bor Text). word.now)
     c.args.words.now in
     let sized : is_ok c.sizes_of.result ≡ true = search rules in
     let told : is_overwritten words ≡ true =
     sym (overwritten_is c.in_ok-line.line words c.in_ok-matches.matches c.in_ok-line.ensures
-    c.in_ok-matches.ensures.ok.2) ∙ sym c.is_overwritten.ensures ∙ c.if-is_overwritten.true in
+    c.in_ok-matches.ensures.ok.2) ∙ sym c.overwritten_in.ensures
+    ∙ ap is_some c.in-Some-overwritten_in.is in
     let faults = sized_faults c.in_ok-line.line words c.in_ok-matches.matches (is_excluded words)
     true c.in_ok-line.ensures c.in_ok-matches.ensures.kinds c.in_ok-matches.ensures.ok.2
     c.in-Ok.ensures.one (sym c.sizes_of.ensures.are ∙ sized) refl told
@@ -203,12 +199,13 @@ returns-clause-fault c =
     c.args.words.now in
     let sized : is_ok c.sizes_of.result ≡ true = search rules in
     let none : c.misused.result ≡ None = search rules in
+    let alone : c.overwritten_in.result ≡ None = search rules in
     let free : is_excluded words ≡ false =
     sym (excluded_is c.in_ok-line.line words c.in_ok-matches.matches c.in_ok-line.ensures
     c.in_ok-matches.ensures.ok.2) ∙ sym c.misused.ensures ∙ ap is_some none in
     let apart : is_overwritten words ≡ false =
     sym (overwritten_is c.in_ok-line.line words c.in_ok-matches.matches c.in_ok-line.ensures
-    c.in_ok-matches.ensures.ok.2) ∙ sym c.is_overwritten.ensures ∙ c.if-is_overwritten.false in
+    c.in_ok-matches.ensures.ok.2) ∙ sym c.overwritten_in.ensures ∙ ap is_some alone in
     sized_faults c.in_ok-line.line words c.in_ok-matches.matches false false c.in_ok-line.ensures
     c.in_ok-matches.ensures.kinds c.in_ok-matches.ensures.ok.2 c.in-Ok.ensures.one
     (sym c.sizes_of.ensures.are ∙ sized) free apart
@@ -220,6 +217,10 @@ returns-clause-record_file c = c.get_str.ensures
 pub returns-clause-replay_file : goal.returns-clause-replay_file
 returns-clause-replay_file c = c.get_str-2.ensures
     ∙ name_is _ _ _ (codes "replay") c.in_ok-line.ensures c.in_ok-matches.ensures.ok.2
+
+pub returns-clause-timeline_file : goal.returns-clause-timeline_file
+returns-clause-timeline_file c = c.get_str-3.ensures
+    ∙ name_is _ _ _ (codes "timeline") c.in_ok-line.ensures c.in_ok-matches.ensures.ok.2
 
 pub returns-clause-file : goal.returns-clause-file
 returns-clause-file c = c.in-Ok.ensures.file

@@ -9,5 +9,5 @@ invariant-loop-column l = record {
   size : length l.longests.items ≡ columns l.steps;
   done : (k : ℕ) → k < l.column → get_or l.longests.items k 0 ≡ longest_share l.steps l.drawn k;
   rest : (k : ℕ) → l.column ≤ k → k < columns l.steps
-      → get_or l.longests.items k 0 ≡ share l.steps l.drawn.ready.now k;
+      → get_or l.longests.items k 0 ≡ share l.steps l.drawn.ready.items k;
 }

@@ -1,5 +1,6 @@
 -- A lane more, each time.
-use Rattle.std.proofs.Common.{refl, arith}
+use Rattle.std.proofs.Common.{◌∙◌, ◌++◌, ap, refl, arith}
+use Rattle.ps_timelines.specs.Lanes.{lane_text}
 use Rattle.ps_timelines.proofs.Appended.{front_behind}
 use Rattle.ps_timelines.proofs.Below.{lane_more, no_lane}
 use Rattle.ps_timelines.proofs.pictures.append_lanes.Goals as goal
@@ -14,8 +15,9 @@ loop-lane-init c = record { is = no_lane c.args.scale.steps c.args.to.now.items;
 
 pub loop-lane-preserved : goal.loop-lane-preserved
 loop-lane-preserved c = record {
-  is = lane_more c.args.scale.steps c.loop-lane.y c.args.lanes.now c.loop-lane.lane-index _ c.args.to.now.items
+  is = lane_more c.args.scale.steps c.loop-lane.y c.args.lanes.now c.loop-lane.lane-index c.lane-item.result c.args.to.now.items
       c.loop-lane.to.items c.append_lane.new.to.items c.loop-lane-test.true c.loop-lane.invariant.next
-      c.loop-lane.invariant.is c.in_ok-append_lane.ensures.appended;
+      c.loop-lane.invariant.is (c.in_ok-append_lane.ensures.appended
+      ∙ ap (λ lane. c.loop-lane.to.items ++ lane_text c.args.scale.steps c.loop-lane.y lane) c.lane-item.is);
   next = omega (arith, c.loop-lane.invariant.next);
 }
