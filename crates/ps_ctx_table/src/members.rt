@@ -15,7 +15,7 @@ use ps_ops_control::frames::Cause;
 use ps_ops_state::lent::Context;
 
 /// How far a context is, and what it waits for.
-#[derive(Clone, Copy, Debug, PartialEq, Eq)]
+#[derive(Clone, Copy, Debug, PartialEq, Eq, Hash)]
 pub enum Course {
     Running,
     /// Frames are taken off, for a cause.

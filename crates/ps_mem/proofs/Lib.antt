@@ -10,6 +10,7 @@ pub mod RegionLemmas
 pub mod NewLemmas
 pub mod HeaderLemmas
 pub mod SpaceLemmas
+pub mod ImageLemmas
 pub mod KeepsLemmas
 pub mod ShowsLemmas
 pub mod SoundLemmas

@@ -1,7 +1,8 @@
 -- The space of a memory that grows, and what it grants.
-use Rattle.std.specs.Prelude.{ℕ, ◌-◌, true, false}
+use Rattle.std.specs.Prelude.{ℕ, ◌-◌, true, false, List, length}
 use Rattle.ps_word.specs.Headers.{birth_limit}
-use Rattle.ps_mem.specs.Heap.{Space, Grants, unlogged_records}
+use Rattle.ps_mem.specs.Heap.{Heap, Space, Grants, unlogged_records}
+use Rattle.ps_mem.specs.Objects.{heap_in}
 
 -- at most so many words
 abbrev pub plain_space : Space
@@ -19,3 +20,7 @@ plain_grants size used next = record {
   put = λ slot. 0;
   closed = λ slot. false;
 }
+
+-- where these are the words of all objects, and this is the next birth number
+abbrev pub heap_of_image : (words : List ℕ) → (next : ℕ) → Heap
+heap_of_image words next = heap_in words (length words) next plain_space

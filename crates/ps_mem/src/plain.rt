@@ -3,7 +3,7 @@
 ghost use Rattle.std.specs.Prelude.{◌≡◌, ◌+◌, ◌≤◌, [], length, IfOk, OnOk, OnErr};
 ghost use Rattle.ps_mem.specs.Heap.{Space, empty_heap};
 ghost use Rattle.ps_mem.specs.Objects.{heap_in};
-ghost use Rattle.ps_mem.specs.Plain.{plain_space, plain_grants};
+ghost use Rattle.ps_mem.specs.Plain.{plain_space, plain_grants, heap_of_image};
 
 use crate::region::{REGION_LIMIT, Region};
 use crate::{FieldAt, Memory, NeedFault, Permit};
@@ -34,6 +34,15 @@ fn grown(size: u32, wanted: u32) -> u32
     wanted.max(2 * size).max(FIRST_SIZE).min(REGION_LIMIT)
 }
 
+/// What stands in a memory: two memories with equal images have the same heap.
+#[derive(Debug, PartialEq, Eq, Hash, Drop)]
+pub struct PlainImage {
+    /// The words of the objects, one object after another.
+    pub words: Vec<u64>,
+    /// The next birth number.
+    pub next: u64,
+}
+
 impl PlainMemory {
     /// A memory in which nothing stands.
     pub fn new(alloc: Global) -> PlainMemory
@@ -42,6 +51,18 @@ impl PlainMemory {
         PlainMemory {
             region: Region::empty(alloc),
         }
+    }
+
+    /// What stands in it. `AllocError`: room for its words was refused.
+    pub fn image(&self, alloc: Global) -> Result<PlainImage, AllocError>
+        ensures { IfOk result (λ image. ⟦<PlainMemory as Memory>⟧.heap self.now
+            ≡ heap_of_image image.words.items image.next) }
+    {
+        let words = self.region.written(alloc)?;
+        Ok(PlainImage {
+            words,
+            next: self.region.next(),
+        })
     }
 }
 

@@ -88,6 +88,16 @@ impl Region {
         self.next
     }
 
+    /// The words in which objects stand. `AllocError`: room for them was refused.
+    pub(crate) fn written(&self, alloc: Global) -> Result<Vec<u64>, AllocError>
+        ensures { IfOk result (λ written. written.items ≡ take self.now.used self.now.words) }
+    {
+        let standing = &self.words.as_slice()[..self.used as usize];
+        let mut written = Vec::with_capacity(alloc, standing.len())?;
+        written.extend_from_slice(standing)?;
+        Ok(written)
+    }
+
     /// Takes so many words for the region; what stands stays.
     pub(crate) fn grow(&mut self, size: u32) -> Result<(), AllocError>
         requires grown { length self.old.words ≤ size }

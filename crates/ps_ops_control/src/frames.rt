@@ -8,7 +8,7 @@ use ps_word::values::Part;
 use ps_word::words::Word;
 
 /// Where a text is read from.
-#[derive(Clone, Copy, Debug, PartialEq, Eq)]
+#[derive(Clone, Copy, Debug, PartialEq, Eq, Hash)]
 pub enum Source {
     /// The program of the run.
     Program,
@@ -41,7 +41,7 @@ pub struct ForallLoop {
 }
 
 /// What is being executed.
-#[derive(Clone, Copy, Debug, PartialEq, Eq)]
+#[derive(Clone, Copy, Debug, PartialEq, Eq, Hash)]
 pub enum Frame {
     /// A text, from a place on.
     Text {
@@ -96,7 +96,7 @@ pub enum Frame {
 }
 
 /// What an unwinding is for.
-#[derive(Clone, Copy, Debug, PartialEq, Eq)]
+#[derive(Clone, Copy, Debug, PartialEq, Eq, Hash)]
 pub enum Cause {
     /// It ends at the frame of `stopped`.
     Stop,

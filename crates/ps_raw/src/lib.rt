@@ -65,6 +65,13 @@ impl RawWords {
         self.words.is_empty()
     }
 
+    /// The words.
+    pub fn as_slice(&self) -> &[u64]
+        ensures { result.now ≡ self.now }
+    {
+        self.words.as_slice()
+    }
+
     /// The word at an index.
     #[inline]
     pub fn load(&self, index: usize) -> u64

@@ -24,13 +24,14 @@ pub enum Extent {
 /// What a search by worlds has found.
 #[derive(Drop)]
 pub struct Covered<E: Eq + Hash, S> {
-    /// Each ending once, and a shortest schedule whose run ends so; those with fewer steps first.
+    /// Each ending once, and a shortest schedule whose run ends so.
     pub endings: IndexMap<E, S>,
     /// How many worlds were told apart.
     pub worlds: usize,
     /// How many steps between them were followed.
     pub steps: u64,
-    pub reach: Extent,
+    /// How far it came.
+    pub extent: Extent,
 }
 
 /// Why a search doesn't go on.
@@ -259,7 +260,7 @@ fn cover_all<G: RunGraph>(
 }
 
 /// Looks for every world that the runs of a graph come to, and tells how they end: each ending
-/// once, with a schedule whose run ends so and as few steps as any such, those with fewer first.
+/// once, with a schedule whose run ends so and as few steps as any such.
 ///
 /// At most so many worlds are kept. Where each was followed, there is no other ending, and no other
 /// world: of no schedule, however long. `AllocError`: a growth was refused.
@@ -268,17 +269,17 @@ pub fn cover<G: RunGraph>(
     graph: &G,
     most: u32,
 ) -> Result<Covered<G::Ending, G::Schedule>, AllocError>
-    ensures every { IfOk result (λ covered. covered.reach ≡ Extent.All
+    ensures every { IfOk result (λ covered. covered.extent ≡ Extent.All
         → EveryEnd (G.price graph.now) (G.Ends graph.now) covered.endings.entries) }
     ensures each { IfOk result (λ covered. All (IsEndOf (G.price graph.now) (G.Ends graph.now)
         G.Makes) covered.endings.entries) }
     ensures worlds { IfOk result (λ covered. AreWorlds (G.price graph.now) (G.IsImage graph.now)
-        G.Makes G.steps G.Image.eq covered.worlds covered.steps (covered.reach ≡ Extent.All)) }
+        G.Makes G.steps G.Image.eq covered.worlds covered.steps (covered.extent ≡ Extent.All)) }
     ensures within { IfOk result (λ covered. covered.worlds ≤ most) }
-    ensures met { IfOk result (λ covered. covered.reach ≡ Extent.Most → covered.worlds ≡ most) }
+    ensures met { IfOk result (λ covered. covered.extent ≡ Extent.Most → covered.worlds ≡ most) }
 {
     let mut cover = Coverage::new(alloc, most);
-    let reach = match cover_all(graph, &mut cover) {
+    let extent = match cover_all(graph, &mut cover) {
         Ok(()) => Extent::All,
         Err(Halt::Most) => Extent::Most,
         Err(Halt::Lost) => Extent::Lost,
@@ -288,6 +289,6 @@ pub fn cover<G: RunGraph>(
         worlds: cover.kept.len(),
         endings: cover.endings,
         steps: cover.steps,
-        reach,
+        extent,
     })
 }

@@ -31,7 +31,7 @@ pub fn access_of(number: u32) -> Access
 /// A part of an array or of a string, which shares its object (PLRM2, 3.3.1 and 3.6): the address
 /// of the object, where the part begins in it and how many elements or bytes it has, and what may
 /// be done with it.
-#[derive(Clone, Copy, Debug, PartialEq, Eq)]
+#[derive(Clone, Copy, Debug, PartialEq, Eq, Hash)]
 pub struct Part {
     /// Below 2^24.
     pub address: u32,

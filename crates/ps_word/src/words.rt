@@ -17,7 +17,7 @@ use ps_language::kinds::Kind;
 use ps_language::operators::{OPERATORS, Operator, operator_at, operator_of};
 
 /// A word of memory.
-#[derive(Clone, Copy, Debug, PartialEq, Eq)]
+#[derive(Clone, Copy, Debug, PartialEq, Eq, Hash)]
 pub struct Word(pub u64);
 
 impl Value {
