@@ -110,6 +110,15 @@ impl Progress for TerminalLine<'_> {
         }
     }
 
+    fn show_worlds(&mut self, worlds: usize, followed: usize, endings: usize) {
+        if self.is_due() {
+            self.is_shown = true;
+            let _ = eprint!(self.rt;
+                "\rdpsrun: {followed} of {worlds} states so far, {endings} endings\x1b[K"
+            );
+        }
+    }
+
     fn clear(&mut self) {
         if self.is_shown {
             self.is_shown = false;

@@ -17,13 +17,13 @@ use Rattle.ps_cuts.specs.Runs.{EndsAsTold, EndsBy, EndsLike, IsToldOf, contexts_
 use Rattle.ps_cuts.proofs.Batches.{and_left, and_right, plain_back, steps_back}
 use Rattle.ps_cuts.proofs.Whose.{can_ready, price_ready, price_unready, steps_by-append}
 
-steps-length : (path : List ℕ) → length (steps_by path) ≡ length path
+pub steps-length : (path : List ℕ) → length (steps_by path) ≡ length path
 steps-length [] = refl
 steps-length (one ∷ path) = let rest = steps-length path in omega (arith, rest)
 
 module _ (program : List ℕ) where
   -- one step on
-  further : (path : List ℕ) (one : ℕ)
+  pub further : (path : List ℕ) (one : ℕ)
       → after_moves (starting_world program) (steps_by (path ++ one ∷ []))
       ≡ after_move (after_moves (starting_world program) (steps_by path)) (plain_move one)
   unfolding after_moves
@@ -86,18 +86,18 @@ module _ (program : List ℕ) where
   -- ---- in a user's words
 
   module _ (schedule : List Entry) (plain : AllPlain (moves schedule)) where
-    world_there : after_moves (starting_world program) (steps_by (contexts_of schedule))
+    pub world_there : after_moves (starting_world program) (steps_by (contexts_of schedule))
         ≡ world program schedule
     unfolding world
     world_there = ap (after_moves (starting_world program)) (steps_back schedule plain)
 
-    count_there : length (contexts_of schedule) ≡ count_of schedule
+    pub count_there : length (contexts_of schedule) ≡ count_of schedule
     unfolding count_of
     count_there =
         sym (steps-length (contexts_of schedule))
         ∙ ap {B = ℕ} (λ (ms : List Move). length ms) (steps_back schedule plain)
 
-    ready_all : IsProper program schedule
+    pub ready_all : IsProper program schedule
         → all_ready (starting_world program) (steps_by (contexts_of schedule)) ≡ true
     unfolding IsProper
     ready_all proper =
@@ -131,7 +131,7 @@ module _ (program : List ℕ) where
             ∙ over.1 context),
       )
 
-  can_not : (path : List ℕ) (context : ℕ) (ready : Bool)
+  pub can_not : (path : List ℕ) (context : ℕ) (ready : Bool)
       → is_ready (after_moves (starting_world program) (steps_by path)) context ≡ ready
       → price program path context ≡ None → ready ≡ false
   can_not path context true is none =
@@ -170,7 +170,7 @@ module _ (program : List ℕ) where
       (every (contexts_of schedule) (is_schedule steps schedule order)
       (omega (arith, costs, few, within)))
 
-  contexts_by : (path : List ℕ) → map (λ (move : Move). move.context) (steps_by path) ≡ path
+  pub contexts_by : (path : List ℕ) → map (λ (move : Move). move.context) (steps_by path) ≡ path
   contexts_by [] = refl
   contexts_by (one ∷ path) = ap (λ (cs : List ℕ). one ∷ cs) (contexts_by path)
 

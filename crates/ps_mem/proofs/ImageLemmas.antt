@@ -24,5 +24,5 @@ heap-of-image words used next within =
     is_by words used next
     ∙ (ap (λ ws. heap_by ws used next) (sym (take-length standing))
     ∙ (ap (λ n. heap_by (take (length standing) standing) n next)
-        (sym (length-take-le used words within))
+    (sym (length-take-le used words within))
     ∙ sym (is_by standing (length standing) next)))

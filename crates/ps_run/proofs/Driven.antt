@@ -1,5 +1,5 @@
 -- What a command line comes to, for other words of what it asks.
-use Rattle.std.proofs.Common.{◌≡◌, ◌≢◌, ℕ, List, [], ◌∷◌, Bool, Option, inl, inr, refl, subst, ◌∙◌}
+use Rattle.std.proofs.Common.{◌≡◌, ◌≢◌, ℕ, List, [], ◌∷◌, Bool, Option, Some, None, inl, inr, refl, subst, ◌∙◌}
 use Rattle.std.specs.Prelude.{◌⊎◌, IfSome}
 use Rattle.ps_language.specs.Effect.{Around, Scene}
 use Rattle.ps_language.specs.World as world
@@ -11,7 +11,8 @@ use Rattle.clap.specs.Values.{kind_of}
 use Rattle.clap.specs.declared.error.Error.{Error}
 use Rattle.clap.specs.declared.error.kind.ErrorKind.TheVariants as kind
 use Rattle.ps_run.specs.declared.statuses.Status.{Status}
-use Rattle.ps_run.specs.Driving.{Asked, Contents, KeepsProgram, Names, Outputs, IsBegun, IsDriven, IsShown, IsWritten, IsWrittenName}
+use Rattle.ps_language.specs.declared.schedules.Entry.{Entry}
+use Rattle.ps_run.specs.Driving.{Asked, Contents, Ended, IsPictureWritten, KeepsProgram, Names, Outputs, IsBegun, IsDriven, IsShown, IsWritten, IsWrittenName}
 use Rattle.ps_run.specs.Telling.{Told}
 use Rattle.ps_run.proofs.ReadParts.{of_known}
 
@@ -83,29 +84,43 @@ driven_more asks names other A B F G told outputs same more fault driven =
       written = all.written;
       keeps = all.keeps;
     })))))
-    with_more (inr (inr (inr (inr (inr (inl state)))))) = inr (inr (inr (inr (inr (inl (record {
-      asked = state.asked;
-      is_asked = more state.asked state.is_asked;
-      view = state.view;
-      is_at = state.is_at;
-      program = state.program;
-      is_program = state.is_program;
-      given = state.given;
-      is_given = state.is_given;
-      within = state.within;
-      text = state.text;
-      is_text = state.is_text;
-      written = state.written;
+    with_more (inr (inr (inr (inr (inr (inl all)))))) = inr (inr (inr (inr (inr (inl (record {
+      asked = all.asked;
+      is_asked = more all.asked all.is_asked;
+      most = all.most;
+      are_all = all.are_all;
+      program = all.program;
+      is_program = all.is_program;
+      found = all.found;
+      are = all.are;
+      written = all.written;
+      keeps = all.keeps;
     }))))))
-    with_more (inr (inr (inr (inr (inr (inr untold)))))) = inr (inr (inr (inr (inr (inr (record {
-      asked = untold.asked;
-      is_asked = more untold.asked untold.is_asked;
-      is_at = untold.is_at;
-      is_memory = untold.is_memory;
-      printed = untold.printed;
-      files = untold.files;
-      tells = untold.tells;
-    }))))))
+    with_more (inr (inr (inr (inr (inr (inr (inl state))))))) =
+        inr (inr (inr (inr (inr (inr (inl (record {
+          asked = state.asked;
+          is_asked = more state.asked state.is_asked;
+          view = state.view;
+          is_at = state.is_at;
+          program = state.program;
+          is_program = state.is_program;
+          given = state.given;
+          is_given = state.is_given;
+          within = state.within;
+          text = state.text;
+          is_text = state.is_text;
+          written = state.written;
+        })))))))
+    with_more (inr (inr (inr (inr (inr (inr (inr untold))))))) =
+        inr (inr (inr (inr (inr (inr (inr (record {
+          asked = untold.asked;
+          is_asked = more untold.asked untold.is_asked;
+          is_at = untold.is_at;
+          is_memory = untold.is_memory;
+          printed = untold.printed;
+          files = untold.files;
+          tells = untold.tells;
+        })))))))
 
 -- the name of a file that is written, by other words of it
 pub written_named : (recorded other drawn another : Option Text) (many more : Option ℕ)
@@ -156,3 +171,19 @@ pub faulty : (kinds : Kinds) (e : Error) → HasKind kinds e → (kind_of e ≡ 
     → kinds ≢ []
 faulty kinds e (inl memory) other = absurd (other memory)
 faulty kinds e (inr among) other = among_none (kind_of e) kinds among
+
+-- a picture that was written is another too, where that is said of each text
+pub picture_more : (drawn : Option Text) (P Q : List ℕ → Type 0) (schedule : List Entry)
+    (old new : Ended) → ((text : List ℕ) → P text → Q text)
+    → IsPictureWritten drawn P schedule old new → IsPictureWritten drawn Q schedule old new
+picture_more None P Q schedule old new more is = is
+picture_more (Some name) P Q schedule old new more (inl held) = inl (record {
+  same = held.same;
+  told = held.told;
+  writes = held.writes;
+  apart = held.apart;
+  text = held.text;
+  is_picture = more held.text held.is_picture;
+  holds = held.holds;
+})
+picture_more (Some name) P Q schedule old new more (inr other) = inr other

@@ -1,5 +1,5 @@
 -- What the definitions of a run say, and their nearest neighbours don't.
-use Rattle.std.proofs.Common.{◌≡◌, ℕ, true, false, List, [], ◌∷◌, Option, Some, None, codes, refl, arith, ◌++◌}
+use Rattle.std.proofs.Common.{◌≡◌, ℕ, true, false, List, [], ◌∷◌, Option, Some, None, codes, refl, sym, true≢false, arith, ◌++◌, ◌∙◌}
 use Rattle.std.specs.Fmt.{decimal}
 use Rattle.clap.specs.Words.{Text}
 use Rattle.ps_vault.specs.declared.reports.Report.{Report}
@@ -105,6 +105,11 @@ lost printed told outputs is = is.2
 -- a record that isn't asked for is not one that fails
 unasked : (told : Status) (outputs : Outputs) → ¬ IsUnrecorded None told outputs
 unasked told outputs is = is.0
+
+-- nor is one where no write has failed
+unfailed : (name : Text) (outputs : Outputs) → outputs.unwritten ≡ false
+    → ¬ IsUnrecorded (Some name) status.Usage outputs
+unfailed name outputs none is = absurd (true≢false (sym is.0.0 ∙ none))
 
 -- ---- many runs
 

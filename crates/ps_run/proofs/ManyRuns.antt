@@ -69,24 +69,23 @@ endings_entries asks program steps most runs endings few are = λ place default 
     ending.run.run.fits
 
 -- what was written, where what stood before is told of what stood earlier
-pub all_written_from : (recorded : Option Text) (runs : ℕ) (endings : List Report) (also : List ℕ)
+pub all_written_from : (recorded : Option Text) (endings : List Report) (lines : List ℕ)
     (told : Status) (outputs : Outputs) (err : Told) (files : Contents) → outputs.err_old ≡ err
-    → outputs.files_old ≡ files → AreWritten recorded runs endings also told outputs
-    → AreWritten recorded runs endings also told
+    → outputs.files_old ≡ files → AreWritten recorded endings lines told outputs
+    → AreWritten recorded endings lines told
     (record outputs { err_old = err; files_old = files })
-all_written_from recorded runs endings also told outputs err files errs all written =
-    subst (AreWritten recorded runs endings also told)
+all_written_from recorded endings lines told outputs err files errs all written =
+    subst (AreWritten recorded endings lines told)
     (λ i. record outputs { err_old = errs i; files_old = all i }) written
 
 -- and by other words of it
-pub all_written_as : (recorded : Option Text) (few runs : ℕ) (endings others : List Report)
-    (also more : List ℕ) (told : Status) (outputs : Outputs) → few ≡ runs → endings ≡ others
-    → also ≡ more → AreWritten recorded few endings also told outputs
-    → AreWritten recorded runs others more told outputs
-all_written_as recorded few runs endings others also more told outputs one two three written =
-    subst (λ (n : ℕ). AreWritten recorded n others more told outputs) one
-    (subst (λ (reports : List Report). AreWritten recorded few reports more told outputs) two
-    (subst (λ (text : List ℕ). AreWritten recorded few endings text told outputs) three written))
+pub all_written_as : (recorded : Option Text) (endings others : List Report)
+    (lines more : List ℕ) (told : Status) (outputs : Outputs) → endings ≡ others
+    → lines ≡ more → AreWritten recorded endings lines told outputs
+    → AreWritten recorded others more told outputs
+all_written_as recorded endings others lines more told outputs one two written =
+    subst (λ (reports : List Report). AreWritten recorded reports more told outputs) one
+    (subst (λ (text : List ℕ). AreWritten recorded endings text told outputs) two written)
 
 -- a name with such a number is a record's, where the words give the name
 pub named_record : (given : Option (Bor (List ℕ))) (prefix : Bor (List ℕ)) (name : Text)

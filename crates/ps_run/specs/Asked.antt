@@ -8,7 +8,7 @@ use Rattle.ps_run_options.specs.CommandLine.{IsNumber, IsFlag, AreNumbers, explo
 use Rattle.ps_run_options.specs.CommandLine.{view_asked}
 use Rattle.ps_run_options.specs.declared.views.View.{View}
 use Rattle.ps_run_options.specs.declared.options.Exploration.{Exploration}
-use Rattle.ps_run_options.specs.declared.options.Exploration.TheVariants.{ByChance, EachOrder}
+use Rattle.ps_run_options.specs.declared.options.Exploration.TheVariants.{ByChance, EachOrder, EachWorld}
 use Rattle.ps_run_options.specs.Sources.{file_of, text_of as program_text}
 use Rattle.clap.specs.Words.{Text}
 use Rattle.ps_ctx_start.specs.declared.start.TheConstants.{ANY_OUTPUT}
@@ -106,10 +106,11 @@ asked_of options = record {
   entries = options.entries;
 }
 
--- how many endings there may be: one a run
+-- how many endings there may be: one a run, or a world
 abbrev pub most_endings : Exploration → ℕ
 most_endings (ByChance runs) = runs
 most_endings (EachOrder bounds) = bounds.runs
+most_endings (EachWorld most) = most
 
 -- how many records there may be, where it isn't a single run's
 abbrev pub records_in : List Text → Option ℕ

@@ -10,7 +10,7 @@ use Rattle.ps_language.specs.World as world
 use Rattle.ps_language.specs.Worlds as worlds
 use Rattle.ps_ops_state.specs.Acts as acts
 use Rattle.ps_mem.specs.Heap.{Space}
-use Rattle.ps_run_options.specs.declared.options.Exploration.TheVariants.{ByChance, EachOrder}
+use Rattle.ps_run_options.specs.declared.options.Exploration.TheVariants.{ByChance, EachOrder, EachWorld}
 use Rattle.ps_run_options.specs.declared.options.OrderBounds.{OrderBounds}
 use Rattle.ps_run_options.specs.declared.views.View.{View}
 use Rattle.ps_run_options.specs.declared.views.View.TheVariants.{State, Steps}
@@ -25,6 +25,7 @@ use Rattle.ps_vault.specs.Order.{InOrder}
 use Rattle.ps_vault.specs.Reports.{IsBounded, IsReplayOf, IsRunIn, IsUncollected, UnderPart, WithBudget, are_ordinary}
 use Rattle.ps_vault.specs.Screens.{AppendsPart}
 use Rattle.ps_run.specs.Orders.{AreOrderLines, AreOrders, Orders, report_of}
+use Rattle.ps_run.specs.Worlds.{AreWorlds, Worlds, way_report, world_lines}
 use Rattle.ps_walks.specs.StepLines.{AreStepLines}
 use Rattle.ps_walks.specs.Timelines.{IsTimelineOf}
 use Rattle.ps_walks.specs.Walks.{world_behind}
@@ -41,6 +42,7 @@ pub use Rattle.ps_run.specs.Lines.{unwritten_line, count_lines, counts_of, untol
 pub use Rattle.ps_run.specs.Lines.{ArePlaces, reason_of, status_for, unread, reason_line}
 pub use Rattle.ps_run.specs.Lines.{lines_for, unread_lines, bad_line, ending_lines, past_end_line}
 pub use Rattle.ps_run.specs.Lines.{too_large_line, outcome_text, undrawn_line}
+pub use Rattle.ps_run.specs.Lines.{over_schedule_line}
 pub use Rattle.ps_run.specs.Asked.{Asked, most_output, most_entries, AreAsked, most_asked}
 pub use Rattle.ps_run.specs.Asked.{space_of, Names, names_in, config_in, asked_of, most_endings}
 pub use Rattle.ps_run.specs.Asked.{records_in, records_of, names_of, AreOutOfRange}
@@ -134,7 +136,7 @@ pub record IsFileRun (asks : world.Status → Around → Scene → acts.Asked) (
   pub streamed : cut ≡ true → asked.streamed ≡ true
 
 -- what outputs and files hold before and after, where it is known; flushed: whether the first
--- output was flushed after its last write
+-- output was flushed after its last write; unwritten: whether a write of a file has failed
 pub record Outputs : Type 0 where
   pub out_old : Option (List ℕ)
   pub out_new : Option (List ℕ)
@@ -143,20 +145,22 @@ pub record Outputs : Type 0 where
   pub files_old : Contents
   pub files_new : Contents
   pub flushed : Bool
+  pub unwritten : Bool
 
--- what standard error has where the record that is named isn't made: one line, and no counts. Its
--- file was not written, or memory was wanted for its text
-abbrev pub TellsUnwritten : Option Text → Status → (err_old err_new : Told) → Type 0
-TellsUnwritten (Some name) status.Usage err_old err_new =
-    Tells err_old err_new (unwritten_line name)
-TellsUnwritten (Some name) status.Memory err_old err_new =
+-- what standard error has where the record that is named isn't made: one line, and no counts. A
+-- write of a file has failed, or memory was wanted for its text
+abbrev pub TellsUnwritten : (unwritten : Bool) → Option Text → Status → (err_old err_new : Told)
+    → Type 0
+TellsUnwritten unwritten (Some name) status.Usage err_old err_new =
+    (unwritten ≡ true) × Tells err_old err_new (unwritten_line name)
+TellsUnwritten unwritten (Some name) status.Memory err_old err_new =
     Tells err_old err_new (line_of status.Memory)
-TellsUnwritten recorded told err_old err_new = ⊥
+TellsUnwritten unwritten recorded told err_old err_new = ⊥
 
 -- no record was made, though one is asked for; where memory was wanted no file has changed
 abbrev pub IsUnrecorded : Option Text → Status → Outputs → Type 0
 IsUnrecorded recorded told outputs =
-    TellsUnwritten recorded told outputs.err_old outputs.err_new
+    TellsUnwritten outputs.unwritten recorded told outputs.err_old outputs.err_new
     × (told ≡ status.Memory → outputs.files_new ≡ outputs.files_old)
 
 -- the output took a part alone of what was printed: that is told and nothing else, no file has
@@ -193,23 +197,50 @@ pub record IsPicture (file program : List ℕ) (report : Report) (text : List �
       (moves report.schedule.items) told
   pub is_text : text ≡ picture told
 
--- what a run came to before its picture is drawn: its status, what standard error has, and files
+-- what a run came to before its picture is drawn: its status, what standard error has, files, and
+-- whether a write of one has failed
 pub record Ended : Type 0 where
   pub status : Status
   pub err : Told
   pub files : Contents
+  pub unwritten : Bool
 
--- the picture is written to the file that is named, where one is, and nothing else has changed; or
--- it can't be, and that is told; or it isn't drawn, and why is told
-abbrev pub IsDrawn : (drawn : Option Text) → (IsPicture : List ℕ → Type 0) → (old new : Ended)
-    → Type 0
-IsDrawn None IsPicture old new = new ≡ old
-IsDrawn (Some name) IsPicture old new =
-    ((new.status ≡ old.status) × (new.err ≡ old.err)
-    × (text : List ℕ) × IsPicture text × IsHeldIn new.files (Some name) text)
-    ⊎ (((new.status ≡ status.Usage) × Tells old.err new.err (unwritten_line name))
-    ⊎ ((new.status ≡ old.status) × (new.files ≡ old.files)
-    × (why : WalkFault) × Tells old.err new.err (undrawn_line why)))
+-- the file of this name has the text of the schedule
+abbrev pub HoldsSchedule : Contents → Text → (schedule : List Entry) → Type 0
+HoldsSchedule contents name schedule =
+    IfSome (contents name) (λ bytes. bytes ≡ text_of schedule)
+
+-- the picture is written to a file that didn't have the schedule, and nothing is told
+pub record IsPictureHeld (name : Text) (IsPicture : List ℕ → Type 0) (schedule : List Entry)
+    (old new : Ended) : Type 0 where
+  pub same : new.status ≡ old.status
+  pub told : new.err ≡ old.err
+  pub writes : new.unwritten ≡ old.unwritten
+  pub apart : IfSome (old.files name) (λ bytes. bytes ≢ text_of schedule)
+  pub text : List ℕ
+  pub is_picture : IsPicture text
+  pub holds : IsHeldIn new.files (Some name) text
+
+-- it isn't, and that is told: its file has the schedule, and no file has changed; or a write has
+-- failed
+abbrev pub IsPictureRefused : (name : Text) → (schedule : List Entry) → (old new : Ended) → Type 0
+IsPictureRefused name schedule old new = (new.status ≡ status.Usage)
+    × (((new.files ≡ old.files) × HoldsSchedule old.files name schedule
+    × Tells old.err new.err (over_schedule_line name))
+    ⊎ ((new.unwritten ≡ true) × Tells old.err new.err (unwritten_line name)))
+
+-- it isn't drawn: no file has changed, and why is told
+abbrev pub IsUndrawn : (old new : Ended) → Type 0
+IsUndrawn old new = (new.status ≡ old.status) × (new.files ≡ old.files)
+    × (why : WalkFault) × Tells old.err new.err (undrawn_line why)
+
+-- what becomes of the picture that is asked for, where one is, and of nothing else
+abbrev pub IsPictureWritten : (drawn : Option Text) → (IsPicture : List ℕ → Type 0)
+    → (schedule : List Entry) → (old new : Ended) → Type 0
+IsPictureWritten None IsPicture schedule old new = new ≡ old
+IsPictureWritten (Some name) IsPicture schedule old new =
+    IsPictureHeld name IsPicture schedule old new
+    ⊎ (IsPictureRefused name schedule old new ⊎ IsUndrawn old new)
 
 -- ---- many runs
 
@@ -250,19 +281,20 @@ agreement _ = status.Faulted
 abbrev pub AreUnrecorded : Option Text → List Report → Status → Outputs → Type 0
 AreUnrecorded recorded endings told outputs = (place : ℕ) × (place < length endings)
     × AreRecorded outputs.files_new recorded endings place
-    × TellsUnwritten (option_map (λ prefix. numbered prefix (place + 1)) recorded) told
+    × TellsUnwritten outputs.unwritten
+    (option_map (λ prefix. numbered prefix (place + 1)) recorded) told
     outputs.err_old outputs.err_new
 
--- as of one run (IsWritten), with a record for each ending; also: what is told behind the counts
-abbrev pub AreWritten : (recorded : Option Text) → (runs : ℕ) → List Report → (also : List ℕ)
-    → Status → Outputs → Type 0
-AreWritten recorded runs endings also told outputs =
+-- as of one run (IsWritten), with a record for each ending; lines: what is told of them
+abbrev pub AreWritten : (recorded : Option Text) → List Report → (lines : List ℕ) → Status
+    → Outputs → Type 0
+AreWritten recorded endings lines told outputs =
     IsLost (first_printed endings) told outputs
     ⊎ (Appends outputs.out_old outputs.out_new (first_printed endings)
     × (outputs.flushed ≡ true)
     × (AreUnrecorded recorded endings told outputs
     ⊎ ((told ≡ agreement endings) × AreRecorded outputs.files_new recorded endings (length endings)
-    × Tells outputs.err_old outputs.err_new (ending_lines runs (length endings) ++ also))))
+    × Tells outputs.err_old outputs.err_new lines)))
 
 -- ---- a state, or steps
 
@@ -347,9 +379,19 @@ module _ (asks : world.Status → Around → Scene → acts.Asked) (names : Name
     pub are_places : ArePlaces asked.places report places
     pub ended : Ended
     pub written : IsWritten cut names.recorded places asked.stats report ended.status
-        (record outputs { err_new = ended.err; files_new = ended.files })
-    pub drawn : IsDrawn names.drawn (IsPicture (program_name names) run.program report) ended
-        (record { status = told; err = outputs.err_new; files = outputs.files_new })
+        (record outputs {
+          err_new = ended.err;
+          files_new = ended.files;
+          unwritten = ended.unwritten;
+        })
+    pub drawn : IsPictureWritten names.drawn (IsPicture (program_name names) run.program report)
+        report.schedule.items ended
+        (record {
+          status = told;
+          err = outputs.err_new;
+          files = outputs.files_new;
+          unwritten = outputs.unwritten;
+        })
     pub others : (name : Text) → names.drawn ≢ Some name
         → outputs.files_new name ≡ ended.files name
     pub keeps : KeepsProgram outputs.files_old outputs.files_new run.program
@@ -365,7 +407,8 @@ module _ (asks : world.Status → Around → Scene → acts.Asked) (names : Name
     pub endings : List Report
     pub are : AreEndings asks program asked.steps (most_asked asked) runs endings
     pub entries : All (λ ending. AreEntries ending.schedule.items) endings
-    pub written : AreWritten names.recorded runs endings [] told outputs
+    pub written : AreWritten names.recorded endings (ending_lines runs (length endings)) told
+        outputs
     pub keeps : KeepsProgram outputs.files_old outputs.files_new program
 
   -- the program's orders with few cuts, each told by how it ends, that were written
@@ -380,7 +423,20 @@ module _ (asks : world.Status → Around → Scene → acts.Asked) (names : Name
     pub are : AreOrders program asked.steps bounds orders
     pub lines : List ℕ
     pub are_lines : AreOrderLines (program_name names) program bounds orders lines
-    pub written : AreWritten names.recorded orders.runs (map report_of orders.endings) lines told
+    pub written : AreWritten names.recorded (map report_of orders.endings) lines told outputs
+    pub keeps : KeepsProgram outputs.files_old outputs.files_new program
+
+  -- the program's orders by worlds, each ending told, that were written
+  pub record AreWorldsWritten (told : Status) (outputs : Outputs) : Type 0 where
+    pub asked : Asked
+    pub is_asked : IsAsked asked
+    pub most : ℕ
+    pub are_all : asked.explored ≡ Some (EachWorld most)
+    pub program : List ℕ
+    pub is_program : IsProgramIn outputs.files_old names program
+    pub found : Worlds
+    pub are : AreWorlds program most found
+    pub written : AreWritten names.recorded (map way_report found.endings) (world_lines found) told
         outputs
     pub keeps : KeepsProgram outputs.files_old outputs.files_new program
 
@@ -433,4 +489,5 @@ module _ (asks : world.Status → Around → Scene → acts.Asked) (names : Name
       × Tells outputs.err_old outputs.err_new (line_of status.Memory))
       ⊎ (IsRunWritten told outputs
       ⊎ (AreRunsWritten told outputs ⊎ (AreOrdersWritten told outputs
-      ⊎ (IsViewWritten told outputs ⊎ IsViewUntold told outputs)))))
+      ⊎ (AreWorldsWritten told outputs
+      ⊎ (IsViewWritten told outputs ⊎ IsViewUntold told outputs))))))

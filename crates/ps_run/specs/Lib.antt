@@ -4,3 +4,4 @@ pub mod Lines
 pub mod Orders
 pub mod Parts
 pub mod Telling
+pub mod Worlds

@@ -85,6 +85,11 @@ undrawn_line walk.Memory = codes "dpsrun: no timeline: out of memory\n"
 undrawn_line walk.TooLarge =
     codes "dpsrun: no timeline: the run is too large to be made again\n"
 
+-- the line that it has of one that would be written over the run's schedule
+abbrev pub over_schedule_line : (name : Text) → List ℕ
+over_schedule_line name =
+    codes "dpsrun: the picture would write over the schedule in " ++ (name ++ codes "\n")
+
 -- what is told of the places of its errors
 abbrev pub told_of : Places → List ℕ
 told_of Unasked = []

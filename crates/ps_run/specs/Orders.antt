@@ -11,7 +11,7 @@ use Rattle.ps_run_schedules.specs.Keeping.{Kept}
 use Rattle.ps_searches.specs.declared.found.Told.{Told}
 use Rattle.ps_vault.specs.declared.reports.Report.{Report}
 use Rattle.ps_views.specs.declared.orders.EndingLine.{EndingLine}
-use Rattle.ps_run.specs.Lines.{outcome_text}
+use Rattle.ps_run.specs.Lines.{ending_lines, outcome_text}
 use Rattle.ps_views.specs.Orders.{ending_line, reach_line}
 use Rattle.ps_walks.specs.Cuts.{AreCutLines}
 use Rattle.ps_walks.specs.Walks.{world_behind}
@@ -37,15 +37,19 @@ pub record AreOrders (program : List ℕ) (steps : ℕ) (bounds : OrderBounds) (
   pub met : orders.below ≤ bounds.cuts → orders.runs ≡ bounds.runs
   pub runs : orders.runs ≤ bounds.runs
 
--- the run of an order that is told
-abbrev pub report_of : Ending × Told Kept → Report
-report_of told = record {
-  printed = told.0.printed;
-  schedule = told.1.schedule;
-  outcome = told.0.outcome;
+-- the run of an order that ends so
+abbrev pub run_of : Ending → Kept → Report
+run_of ending schedule = record {
+  printed = ending.printed;
+  schedule = schedule;
+  outcome = ending.outcome;
   flips = 0;
   taken = 0;
 }
+
+-- that of an order that is told
+abbrev pub report_of : Ending × Told Kept → Report
+report_of told = run_of told.0 told.1.schedule
 
 -- ---- the lines
 
@@ -76,19 +80,19 @@ AreLinesBehind file program last (told ∷ rest) lines = (cuts : List ℕ) × (m
     × AreCutsTold file program told.1.schedule.items cuts
     × AreLinesBehind file program (last + 1) rest more
 
--- which orders were explored, how they ended, and where the cuts are
+-- how many runs were made, how many endings there were, which orders were explored, how they ended,
+-- and where the cuts are
 pub record AreOrderLines (file program : List ℕ) (bounds : OrderBounds) (orders : Orders)
     (lines : List ℕ) : Type 0 where
   pub endings : List ℕ
-  pub are : lines ≡ reach_line
-      (record { cuts = bounds.cuts; below = orders.below; runs = orders.runs }) ++ endings
+  pub are : lines ≡ ending_lines orders.runs (length orders.endings) ++ (reach_line
+      (record { cuts = bounds.cuts; below = orders.below; runs = orders.runs }) ++ endings)
   pub are_endings : AreLinesBehind file program 0 orders.endings endings
 
--- these are orders: the runs of those that are told, how many runs were made in all, and the lines
+-- these are orders: the runs of those that are told, and the lines
 pub record AreTold (file program : List ℕ) (steps : ℕ) (bounds : OrderBounds)
-    (reports : List Report) (runs : ℕ) (lines : List ℕ) : Type 0 where
+    (reports : List Report) (lines : List ℕ) : Type 0 where
   pub orders : Orders
   pub are : AreOrders program steps bounds orders
   pub are_reports : reports ≡ map report_of orders.endings
-  pub are_runs : runs ≡ orders.runs
   pub are_lines : AreOrderLines file program bounds orders lines

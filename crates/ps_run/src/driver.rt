@@ -14,14 +14,15 @@ use crate::making::{config_of, make};
 use crate::orders::explore_each_order;
 use crate::outputs::{Flushing, Telling};
 use crate::outside::Outside;
-use crate::pictures::{Drawing, draw};
-use crate::places::{agains_of, places_in};
+use crate::pictures::{Drawable, draw};
+use crate::places::{places_in, second_runs_of};
 use crate::reading::{read_given, read_program};
 use crate::statuses::{Status, end, number_of};
 use crate::streams::{output_of, screen_of};
 use crate::systems::System;
 use crate::telling::refuse;
 use crate::views::show_view;
+use crate::worlds::explore_each_world;
 use ps_ctx::deeds::Deeds;
 use ps_ctx::makers::Makers;
 use ps_run_options::{Exploration, Options, parse};
@@ -32,8 +33,8 @@ use std::thread::Threads;
 
 /// Runs the program that the words name, whose steps and operators on contexts are those of the
 /// makers: by workers in a space that is collected, or over memory that never is. Or follows the
-/// schedule that the words name, or runs the program many times, under schedules chosen by chance or
-/// in each order of its steps with few cuts.
+/// schedule that the words name, or runs the program many times, under schedules chosen by chance, or
+/// in each order of its steps, with few cuts or by the worlds that they lead to.
 /// Writes what it printed to `out`, the schedule to the file that the words name for a record, and
 /// statistics and faults to `outside.err`. The words are without the program's name; the system has
 /// threads, memory and keys, which are for the table of names alone.
@@ -112,6 +113,7 @@ pub fn drive<
           files_old = F.contents outside.old.files;
           files_new = F.contents outside.new.files;
           flushed = W.is_flushed result.1;
+          unwritten = F.is_unwritten outside.new.files;
         }) }
 {
     match parse(system.alloc, words) {
@@ -167,6 +169,7 @@ fn carry_out<
           files_old = F.contents outside.old.files;
           files_new = F.contents outside.new.files;
           flushed = W.is_flushed result.1;
+          unwritten = F.is_unwritten outside.new.files;
         }) }
 {
     if options.at.is_some() {
@@ -181,6 +184,10 @@ fn carry_out<
         }
         Some(Exploration::EachOrder(_)) => {
             let status = explore_each_order(system, makers, options, &mut out, outside);
+            (status, out)
+        }
+        Some(Exploration::EachWorld(_)) => {
+            let status = explore_each_world(system, makers, options, &mut out, outside);
             (status, out)
         }
     }
@@ -226,6 +233,7 @@ fn run<
           files_old = F.contents outside.old.files;
           files_new = F.contents outside.new.files;
           flushed = W.is_flushed result.1;
+          unwritten = F.is_unwritten outside.new.files;
         }) }
 {
     let alloc = system.alloc;
@@ -246,7 +254,7 @@ fn run<
         Ok(given) => given,
         Err(status) => return (status, out),
     };
-    let Ok(again) = agains_of(options, &makers, bytes, system.keys) else {
+    let Ok(again) = second_runs_of(options, &makers, bytes, system.keys) else {
         return (end(&mut outside.err, Status::Memory), out);
     };
     let job = Job {
@@ -265,12 +273,12 @@ fn run<
                 places: places.text(),
             };
             let (status, out) = finish(alloc, made, options, screen, outside);
-            let drawing = Drawing {
+            let drawable = Drawable {
                 report: &report,
                 again: again.picture,
                 status,
             };
-            (draw(alloc, drawing, options, outside), out)
+            (draw(alloc, drawable, options, outside), out)
         }
         Err(RunFault::Memory) => (end(&mut outside.err, Status::Memory), output_of(screen)),
         Err(RunFault::Config) => (Status::Usage, output_of(screen)),

@@ -1,17 +1,16 @@
 //! What is written at the end of many runs: the bytes that the first printed, a record of each
-//! ending, and how many there were.
+//! ending, and what is told of them.
 
-ghost use Rattle.std.specs.Prelude.{◌≡◌, ◌≤◌, ◌<◌, ◌^◌, ℕ, Bool, false, true, List, Some, Err, length, option_map, ◌+◌, ◌++◌, OnOk, IfErr};
+ghost use Rattle.std.specs.Prelude.{◌≡◌, ◌<◌, ◌^◌, ℕ, Bool, false, true, List, Some, Err, length, option_map, ◌+◌, OnOk, IfErr};
 ghost use Rattle.ps_run.specs.Driving as driving;
 ghost use Rattle.ps_run.specs.Driving.{AreRecorded, AreUnrecorded, AreWritten, IsRecorded, IsRecordName, TellsUnwritten, names_of, numbered};
-ghost use Rattle.ps_run.specs.Telling.{Tells};
 
 use crate::files::FileSet;
 use crate::finishing::{tell_lost, write_schedule};
 use crate::outputs::{Flushing, Telling};
 use crate::outside::Outside;
 use crate::statuses::{Status, end};
-use crate::writing::{hand_out, tell_number};
+use crate::writing::hand_out;
 use ps_run_options::Options;
 use ps_run_schedules::Entries;
 use ps_vault::Report;
@@ -20,16 +19,24 @@ use std::alloc::Global;
 /// Many runs of a program.
 #[derive(Clone, Copy)]
 pub(crate) struct ManyRuns<'e> {
-    /// How many there were.
-    pub(crate) runs: u32,
     /// What they came to, each ending once, in the order in which the runs came to them.
     pub(crate) endings: &'e [Report],
-    /// What is told of them behind how many there were.
-    pub(crate) also: &'e [u8],
+    /// What is told of them.
+    pub(crate) lines: &'e [u8],
+}
+
+/// What the first of these endings printed; nothing, where there is none.
+fn first_printed(endings: &[Report]) -> &[u8]
+    ensures { result.now ≡ driving.first_printed endings.now }
+{
+    match endings {
+        [] => b"",
+        [first, ..] => first.printed.as_slice(),
+    }
 }
 
 /// Writes what the first of these endings printed, then the record of each where that is asked for,
-/// then how many runs and endings there were, and what else is told of them.
+/// then tells of the runs.
 pub(crate) fn finish_all<F: FileSet, W: Flushing, X: Telling>(
     alloc: Global,
     many: ManyRuns<'_>,
@@ -37,7 +44,6 @@ pub(crate) fn finish_all<F: FileSet, W: Flushing, X: Telling>(
     out: &mut W,
     outside: &mut Outside<F, X>,
 ) -> Status
-    requires some { 1 ≤ length many.endings.now }
     requires few { length many.endings.now < 2 ^ 32 }
     ensures others { (other : List ℕ) → ¬ IsRecordName (names_of options.now).recorded
         (Some (length many.entry.endings.now)) other
@@ -46,8 +52,8 @@ pub(crate) fn finish_all<F: FileSet, W: Flushing, X: Telling>(
     ensures unwritten { F.is_unwritten outside.old.files ≡ false
         → F.is_unwritten outside.new.files ≡ true
         → result ≡ Status.Usage }
-    ensures written { AreWritten (names_of options.now).recorded many.entry.runs
-        many.entry.endings.now many.entry.also.now result (record {
+    ensures written { AreWritten (names_of options.now).recorded many.entry.endings.now
+        many.entry.lines.now result (record {
           out_old = W.contents out.old;
           out_new = W.contents out.new;
           err_old = X.told outside.old.err;
@@ -55,15 +61,16 @@ pub(crate) fn finish_all<F: FileSet, W: Flushing, X: Telling>(
           files_old = F.contents outside.old.files;
           files_new = F.contents outside.new.files;
           flushed = W.is_flushed out.new;
+          unwritten = F.is_unwritten outside.new.files;
         }) }
 {
-    if hand_out(out, many.endings[0].printed.as_slice()).is_err() {
+    if hand_out(out, first_printed(many.endings)).is_err() {
         return tell_lost(&mut outside.err);
     }
     if let Err(status) = record_all(alloc, many.endings, options, outside) {
         return status;
     }
-    tell_runs(many, &mut outside.err);
+    outside.err.tell(many.lines);
     if many.endings.len() == 1 {
         Status::Finished
     } else {
@@ -87,7 +94,7 @@ fn record_all<F: FileSet, X: Telling>(
     ensures unrecorded { IfErr result (λ told. (place : ℕ) × (place < length endings.now)
         × AreRecorded (F.contents outside.new.files) (names_of options.now).recorded endings.now
         place
-        × TellsUnwritten
+        × TellsUnwritten (F.is_unwritten outside.new.files)
         (option_map (λ prefix. numbered prefix (place + 1)) (names_of options.now).recorded)
         told (X.told outside.old.err) (X.told outside.new.err)) }
     ensures others { (other : List ℕ) → ¬ IsRecordName (names_of options.now).recorded
@@ -123,7 +130,7 @@ fn record_ending<F: FileSet, X: Telling>(
         (Some (numbered prefix.now number)) schedule.entry) }
     ensures told { OnOk result (outside.new.err ≡ outside.old.err) }
     ensures unrecorded { IfErr result (λ told.
-        TellsUnwritten (Some (numbered prefix.now number)) told
+        TellsUnwritten (F.is_unwritten outside.new.files) (Some (numbered prefix.now number)) told
         (X.told outside.old.err) (X.told outside.new.err)) }
     ensures others { (other : List ℕ) → ¬ (other ≡ numbered prefix.now number)
         → F.contents outside.new.files other ≡ F.contents outside.old.files other }
@@ -138,22 +145,4 @@ fn record_ending<F: FileSet, X: Telling>(
         return Err(end(&mut outside.err, Status::Memory));
     };
     write_schedule(alloc, name.as_str(), schedule, outside)
-}
-
-/// Tells how many runs and endings there were, and what else is told of them.
-fn tell_runs<X: Telling>(many: ManyRuns<'_>, err: &mut X)
-    ensures { Tells (X.told err.old) (X.told err.new)
-        (driving.ending_lines many.entry.runs (length many.entry.endings.now)
-        ++ many.entry.also.now) }
-{
-    tell_endings(many.runs, many.endings.len(), err);
-    err.tell(many.also);
-}
-
-/// Tells how many runs and endings there were.
-fn tell_endings<X: Telling>(runs: u32, endings: usize, err: &mut X)
-    ensures { Tells (X.told err.old) (X.told err.new) (driving.ending_lines runs endings) }
-{
-    tell_number(err, b"runs ", u64::from(runs));
-    tell_number(err, b"endings ", endings as u64);
 }

@@ -16,6 +16,7 @@ use crate::outside::Outside;
 use crate::reading::read_program;
 use crate::statuses::{Status, end};
 use crate::systems::System;
+use crate::writing::append_runs;
 use ps_ctx::deeds::Deeds;
 use ps_ctx::makers::Makers;
 use ps_run_options::{Exploration, Options};
@@ -62,6 +63,7 @@ pub(crate) fn explore<
           files_old = F.contents outside.old.files;
           files_new = F.contents outside.new.files;
           flushed = W.is_flushed out.new;
+          unwritten = F.is_unwritten outside.new.files;
         }) }
 {
     let alloc = system.alloc;
@@ -99,10 +101,13 @@ pub(crate) fn explore<
     order.clear();
     match made {
         Ok(endings) => {
+            let mut lines = Vec::new(alloc);
+            if append_runs(u64::from(runs), endings.len(), &mut lines).is_err() {
+                return end(&mut outside.err, Status::Memory);
+            }
             let many = ManyRuns {
-                runs,
                 endings: endings.as_slice(),
-                also: b"",
+                lines: lines.as_slice(),
             };
             finish_all(alloc, many, options, out, outside)
         }

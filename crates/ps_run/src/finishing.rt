@@ -53,6 +53,7 @@ pub(crate) fn finish<F: FileSet, W: Flushing + Drop, X: Telling>(
           files_old = F.contents outside.old.files;
           files_new = F.contents outside.new.files;
           flushed = W.is_flushed result.1;
+          unwritten = F.is_unwritten outside.new.files;
         }) }
 {
     let report = made.report;
@@ -88,7 +89,8 @@ fn record_schedule<F: FileSet, X: Telling>(
 ) -> Result<(), Status>
     ensures recorded { OnOk result
         (IsRecorded (F.contents outside.new.files) (names_of options.now).recorded schedule.entry) }
-    ensures unrecorded { IfErr result (λ told. TellsUnwritten (names_of options.now).recorded told
+    ensures unrecorded { IfErr result (λ told. TellsUnwritten
+        (F.is_unwritten outside.new.files) (names_of options.now).recorded told
         (X.told outside.old.err) (X.told outside.new.err)) }
     ensures told { OnOk result (outside.new.err ≡ outside.old.err) }
     ensures memory { result ≡ Err Status.Memory → outside.new.files ≡ outside.old.files }
@@ -116,7 +118,8 @@ pub(crate) fn write_schedule<F: FileSet, X: Telling>(
     ensures recorded { OnOk result
         (IsRecorded (F.contents outside.new.files) (Some name.now) schedule.entry) }
     ensures told { OnOk result (outside.new.err ≡ outside.old.err) }
-    ensures unrecorded { IfErr result (λ told. TellsUnwritten (Some name.now) told
+    ensures unrecorded { IfErr result (λ told. TellsUnwritten
+        (F.is_unwritten outside.new.files) (Some name.now) told
         (X.told outside.old.err) (X.told outside.new.err)) }
     ensures memory { result ≡ Err Status.Memory → outside.new.files ≡ outside.old.files }
     ensures others { (other : List ℕ) → other ≢ name.now

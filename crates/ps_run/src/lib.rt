@@ -53,6 +53,7 @@ mod streams;
 mod systems;
 mod telling;
 mod views;
+mod worlds;
 mod writing;
 
 pub use driver::drive;

@@ -22,6 +22,7 @@ use crate::progress::Progress;
 use crate::reading::read_program;
 use crate::statuses::{Status, called, end};
 use crate::systems::System;
+use crate::writing::append_runs;
 use ps_ctx::deeds::Deeds;
 use ps_ctx::makers::Makers;
 use ps_cuts::{Ending, Runs, cuts_of, explore_orders};
@@ -36,13 +37,17 @@ use std::alloc::{AllocError, Global};
 
 /// Shows how far a search of all orders is.
 #[derive(Drop)]
-struct Shown<P: Progress + Drop> {
-    progress: P,
+pub(crate) struct Shown<P: Progress + Drop> {
+    pub(crate) progress: P,
 }
 
 impl<P: Progress + Drop> Watcher for Shown<P> {
     fn run_ended(&mut self, runs: u64, endings: usize, price: u32) {
         self.progress.show_orders(runs, endings, price);
+    }
+
+    fn world_followed(&mut self, worlds: usize, followed: usize, endings: usize) {
+        self.progress.show_worlds(worlds, followed, endings);
     }
 
     fn search_ended(&mut self) {
@@ -116,8 +121,8 @@ fn append_endings<S: Interpret + Clone + Drop, D: Deeds + Clone + Drop>(
     Ok(())
 }
 
-/// The lines that tell of orders: which were explored, how they ended, and where their cuts are.
-/// Fails for want of memory.
+/// The lines that tell of orders: how many runs were made, how many endings there were, which orders
+/// were explored, how they ended, and where their cuts are. Fails for want of memory.
 fn lines_of<S: Interpret + Clone + Drop, D: Deeds + Clone + Drop>(
     runs: &Runs<'_, S, D>,
     file: &[u8],
@@ -134,6 +139,7 @@ fn lines_of<S: Interpret + Clone + Drop, D: Deeds + Clone + Drop>(
         }) lines.items) }
 {
     let mut lines = Vec::new(runs.alloc);
+    append_runs(found.runs, found.endings.len(), &mut lines)?;
     let reach = Reach {
         cuts: bounds.cuts,
         below: found.below,
@@ -144,31 +150,37 @@ fn lines_of<S: Interpret + Clone + Drop, D: Deeds + Clone + Drop>(
     Ok(lines)
 }
 
+/// The run of an order that ends so.
+pub(crate) fn report_of(ending: Ending, schedule: Schedule) -> Report
+    ensures { result ≡ orders.run_of ending schedule }
+{
+    let Ending { printed, outcome } = ending;
+    Report {
+        printed,
+        schedule,
+        outcome,
+        flips: 0,
+        taken: 0,
+    }
+}
+
 /// The runs of the orders that are told. Fails for want of memory.
 fn reports_of(alloc: Global, mut found: Found<Ending, Schedule>) -> Result<Vec<Report>, AllocError>
     ensures { IfOk result (λ reports. reports.items ≡ map report_of found.endings.entries) }
 {
     let mut reports = Vec::new(alloc);
     while let Some((ending, told)) = found.endings.pop() {
-        let Ending { printed, outcome } = ending;
         let Told { schedule, .. } = told;
-        reports.push(Report {
-            printed,
-            schedule,
-            outcome,
-            flips: 0,
-            taken: 0,
-        })?;
+        reports.push(report_of(ending, schedule))?;
     }
     reports.reverse();
     Ok(reports)
 }
 
-/// The runs of orders that are told, how many runs were made in all, and the lines that tell of them.
+/// The runs of orders that are told, and the lines that tell of them.
 #[derive(Drop)]
 struct Explored {
     reports: Vec<Report>,
-    runs: u32,
     lines: Vec<u8>,
 }
 
@@ -183,9 +195,9 @@ fn explore_all<S: Interpret + Clone + Drop, D: Deeds + Clone + Drop, P: Progress
 ) -> Result<Explored, AllocError>
     requires some { 1 ≤ bounds.runs }
     ensures told { IfOk result (λ explored. AreTold file.now runs.now.task.program.now steps bounds
-        explored.reports.items explored.runs explored.lines.items) }
-    ensures some { IfOk result (λ explored. 1 ≤ length explored.reports.items) }
+        explored.reports.items explored.lines.items) }
     ensures few { IfOk result (λ explored. length explored.reports.items ≤ bounds.runs) }
+    ensures fits { IfOk result (λ explored. length explored.reports.items < 2 ^ 32) }
 {
     let limits = Bounds {
         steps,
@@ -194,13 +206,8 @@ fn explore_all<S: Interpret + Clone + Drop, D: Deeds + Clone + Drop, P: Progress
     };
     let found = explore_orders(runs, limits, Shown { progress })?;
     let lines = lines_of(runs, file, bounds, &found)?;
-    let made = found.runs as u32;
     let reports = reports_of(runs.alloc, found)?;
-    Ok(Explored {
-        reports,
-        runs: made,
-        lines,
-    })
+    Ok(Explored { reports, lines })
 }
 
 /// Reads the program, runs it in each order of its steps with at most as many cuts as is asked for,
@@ -244,6 +251,7 @@ pub(crate) fn explore_each_order<
           files_old = F.contents outside.old.files;
           files_new = F.contents outside.new.files;
           flushed = W.is_flushed out.new;
+          unwritten = F.is_unwritten outside.new.files;
         }) }
 {
     let alloc = system.alloc;
@@ -271,15 +279,14 @@ pub(crate) fn explore_each_order<
         return status;
     }
     let many = ManyRuns {
-        runs: explored.runs,
         endings,
-        also: explored.lines.as_slice(),
+        lines: explored.lines.as_slice(),
     };
     finish_all(alloc, many, options, out, outside)
 }
 
 /// The program, to be run again and again.
-fn runs_of<'a, S: Interpret + Drop, D: Deeds + Drop, R>(
+pub(crate) fn runs_of<'a, S: Interpret + Drop, D: Deeds + Drop, R>(
     system: System<'_, R>,
     makers: Makers<S, D>,
     program: &'a [u8],

@@ -1,8 +1,10 @@
-//! The picture of a run, written to a file.
+//! The picture of a run, written to a file that hasn't its schedule, whatever the file's name.
 
 ghost use Rattle.std.specs.Prelude.{◌≡◌, ◌≢◌, ℕ, List, Some, IfOk, IfSome, true, false, is_some};
+ghost use Rattle.ps_language.specs.declared.schedules.Entry.{Entry};
+ghost use Rattle.ps_run_schedules.specs.Texts.{text_of};
 ghost use Rattle.ps_run.specs.Driving as driving;
-ghost use Rattle.ps_run.specs.Driving.{IsDrawn, IsPicture, names_of, undrawn_line};
+ghost use Rattle.ps_run.specs.Driving.{HoldsSchedule, IsPicture, IsPictureWritten, names_of, over_schedule_line, undrawn_line};
 ghost use Rattle.ps_run.specs.Telling.{Tells};
 
 use crate::files::FileSet;
@@ -13,42 +15,46 @@ use crate::statuses::{Status, called};
 use crate::writing::tell_unwritten;
 use ps_ctx::deeds::Deeds;
 use ps_run_options::Options;
+use ps_run_schedules::{Entries, append_schedule};
 use ps_step_interpreter::interprets::Interpret;
 use ps_vault::{ANY_OUTPUT, Report, Setup};
 use ps_walks::{Rerun, WalkFault, timeline_of};
-use std::alloc::Global;
+use std::alloc::{AllocError, Global};
 
 /// A run that may be drawn: what it came to, how it is made again where a picture is asked for, and
 /// the status so far.
 #[derive(Drop)]
-pub(crate) struct Drawing<'a, 'r, S: Drop, D: Drop> {
+pub(crate) struct Drawable<'a, 'r, S: Drop, D: Drop> {
     pub(crate) report: &'r Report,
     pub(crate) again: Option<Again<'a, S, D>>,
     pub(crate) status: Status,
 }
 
-/// Draws a run, and writes the picture to the file that is named for it, if one is. Where it can't be
-/// drawn or written that is told. Gives the status.
+/// Draws a run, and writes the picture to the file that is named for it, if one is. Where that file
+/// has the run's schedule, or the picture can't be drawn or written, that is told. Gives the status.
 pub(crate) fn draw<S: Interpret + Drop, D: Deeds + Drop, F: FileSet, X: Telling>(
     alloc: Global,
-    drawing: Drawing<'_, '_, S, D>,
+    drawable: Drawable<'_, '_, S, D>,
     options: &Options<'_>,
     outside: &mut Outside<F, X>,
 ) -> Status
-    requires asked { is_some drawing.again ≡ is_some options.now.timeline_file }
+    requires asked { is_some drawable.again ≡ is_some options.now.timeline_file }
     ensures drawn { (program : List ℕ)
-        → IfSome drawing.entry.again (λ again. again.program.now ≡ program)
-        → IsDrawn (names_of options.now).drawn
-        (IsPicture (driving.program_name (names_of options.now)) program drawing.entry.report.now)
+        → IfSome drawable.entry.again (λ again. again.program.now ≡ program)
+        → IsPictureWritten (names_of options.now).drawn
+        (IsPicture (driving.program_name (names_of options.now)) program drawable.entry.report.now)
+        drawable.entry.report.now.schedule.items
         (record {
-          status = drawing.entry.status;
+          status = drawable.entry.status;
           err = X.told outside.old.err;
           files = F.contents outside.old.files;
+          unwritten = F.is_unwritten outside.old.files;
         })
         (record {
           status = result;
           err = X.told outside.new.err;
           files = F.contents outside.new.files;
+          unwritten = F.is_unwritten outside.new.files;
         }) }
     ensures others { (other : List ℕ) → (names_of options.now).drawn ≢ Some other
         → F.contents outside.new.files other ≡ F.contents outside.old.files other }
@@ -56,23 +62,62 @@ pub(crate) fn draw<S: Interpret + Drop, D: Deeds + Drop, F: FileSet, X: Telling>
     ensures unwritten { F.is_unwritten outside.old.files ≡ false
         → F.is_unwritten outside.new.files ≡ true
         → result ≡ Status.Usage }
-    ensures usage { drawing.entry.status ≡ Status.Usage → result ≡ Status.Usage }
+    ensures usage { drawable.entry.status ≡ Status.Usage → result ≡ Status.Usage }
 {
-    let Drawing {
+    let Drawable {
         report,
         again,
         status,
-    } = drawing;
+    } = drawable;
     let (Some(again), Some(name)) = (again, options.timeline_file) else {
         return status;
     };
+    match holds_schedule(alloc, name, report.schedule.entries(), &outside.files) {
+        Ok(true) => return tell_over_schedule(name, &mut outside.err),
+        Ok(false) => {}
+        Err(_) => return tell_undrawn(WalkFault::Memory, status, &mut outside.err),
+    }
     match picture_of(alloc, again, options, report) {
         Ok(text) => write_picture(name, text.as_slice(), status, outside),
-        Err(fault) => {
-            outside.err.tell(undrawn_text(fault));
-            status
-        }
+        Err(fault) => tell_undrawn(fault, status, &mut outside.err),
     }
+}
+
+/// Whether the file of a name has the text of a schedule. Fails for want of memory.
+fn holds_schedule<F: FileSet>(
+    alloc: Global,
+    name: &str,
+    schedule: Entries<'_>,
+    files: &F,
+) -> Result<bool, AllocError>
+    ensures holds { IfOk result (λ is. is ≡ true
+        → HoldsSchedule (F.contents files.now) name.now schedule.entry) }
+    ensures apart { IfOk result (λ is. is ≡ false
+        → IfSome (F.contents files.now name.now) (λ bytes. bytes ≢ text_of schedule.entry)) }
+{
+    let mut text = Vec::new(alloc);
+    append_schedule(schedule, &mut text)?;
+    Ok(files.holds(name, text.as_slice()))
+}
+
+/// Tells that a picture would be written over the schedule.
+fn tell_over_schedule<X: Telling>(name: &str, err: &mut X) -> Status
+    ensures status { result ≡ Status.Usage }
+    ensures told { Tells (X.told err.old) (X.told err.new) (over_schedule_line name.now) }
+{
+    err.tell(b"dpsrun: the picture would write over the schedule in ");
+    err.tell(name.as_bytes());
+    err.tell(b"\n");
+    Status::Usage
+}
+
+/// Tells why a run isn't drawn. Gives the status that it has.
+fn tell_undrawn<X: Telling>(fault: WalkFault, status: Status, err: &mut X) -> Status
+    ensures status { result ≡ status }
+    ensures told { Tells (X.told err.old) (X.told err.new) (undrawn_line fault) }
+{
+    err.tell(undrawn_text(fault));
+    status
 }
 
 /// What is told of a run that isn't drawn.
@@ -125,16 +170,20 @@ fn write_picture<F: FileSet, X: Telling>(
     status: Status,
     outside: &mut Outside<F, X>,
 ) -> Status
-    ensures drawn { IsDrawn (Some name.now) (λ written. written ≡ text.now)
+    ensures drawn { (schedule : List Entry)
+        → IfSome (F.contents outside.old.files name.now) (λ bytes. bytes ≢ text_of schedule)
+        → IsPictureWritten (Some name.now) (λ written. written ≡ text.now) schedule
         (record {
           status = status;
           err = X.told outside.old.err;
           files = F.contents outside.old.files;
+          unwritten = F.is_unwritten outside.old.files;
         })
         (record {
           status = result;
           err = X.told outside.new.err;
           files = F.contents outside.new.files;
+          unwritten = F.is_unwritten outside.new.files;
         }) }
     ensures others { (other : List ℕ) → other ≢ name.now
         → F.contents outside.new.files other ≡ F.contents outside.old.files other }

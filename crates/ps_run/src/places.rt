@@ -76,25 +76,25 @@ pub(crate) fn again_of<'a, S: Clone + Drop, D: Clone + Drop>(
 /// A program that is run again for the places of its errors, and for its picture, where each is asked
 /// for.
 #[derive(Drop)]
-pub(crate) struct Agains<'a, S: Drop, D: Drop> {
+pub(crate) struct SecondRuns<'a, S: Drop, D: Drop> {
     pub(crate) places: Option<Again<'a, S, D>>,
     pub(crate) picture: Option<Again<'a, S, D>>,
 }
 
 /// The program once more for each of what is asked for. Fails for want of memory.
-pub(crate) fn agains_of<'a, S: Clone + Drop, D: Clone + Drop>(
+pub(crate) fn second_runs_of<'a, S: Clone + Drop, D: Clone + Drop>(
     options: &Options<'_>,
     makers: &Makers<S, D>,
     program: &'a [u8],
     keys: RandomState,
-) -> Result<Agains<'a, S, D>, AllocError>
+) -> Result<SecondRuns<'a, S, D>, AllocError>
     ensures places { IfOk result (λ again. is_some again.places ≡ options.now.places) }
     ensures picture { IfOk result
         (λ again. is_some again.picture ≡ is_some options.now.timeline_file) }
     ensures program { IfOk result
         (λ again. IfSome again.picture (λ one. one.program.now ≡ program.entry.now)) }
 {
-    Ok(Agains {
+    Ok(SecondRuns {
         places: again_of(options.places, makers, program, keys)?,
         picture: again_of(options.timeline_file.is_some(), makers, program, keys)?,
     })

@@ -10,6 +10,10 @@ pub trait Progress {
     /// many cuts the last one's order has.
     fn show_orders(&mut self, runs: u64, endings: usize, cuts: u32);
 
+    /// Shows how many worlds a search told apart, how many of them were followed, and how many endings
+    /// they had.
+    fn show_worlds(&mut self, worlds: usize, followed: usize, endings: usize);
+
     /// Takes away what it shows.
     fn clear(&mut self);
 }
@@ -22,6 +26,8 @@ impl Progress for NoProgress {
     fn show(&mut self, _made: u32, _runs: u32, _endings: usize) {}
 
     fn show_orders(&mut self, _runs: u64, _endings: usize, _cuts: u32) {}
+
+    fn show_worlds(&mut self, _worlds: usize, _followed: usize, _endings: usize) {}
 
     fn clear(&mut self) {}
 }

@@ -1,6 +1,6 @@
 //! A state of a run, or steps of it, under a schedule that is given, in place of what it prints.
 
-ghost use Rattle.std.specs.Prelude.{◌≡◌, ◌⊎◌, ℕ, List, true, false, None, IfSome, IfOk, IsSome, is_some};
+ghost use Rattle.std.specs.Prelude.{◌≡◌, ◌⊎◌, ℕ, Bool, List, true, false, None, IfSome, IfOk, IsSome, is_some};
 ghost use Rattle.ps_run.specs.Driving as driving;
 ghost use Rattle.ps_run.specs.Driving.{IsDriven, IsFileFault, IsPastEnd, IsShown, IsUnread, IsViewOf, asked_of, names_of, records_of};
 ghost use Rattle.ps_run.specs.Telling.{Tells};
@@ -65,6 +65,7 @@ pub(crate) fn show_view<
           files_old = F.contents outside.old.files;
           files_new = F.contents outside.new.files;
           flushed = W.is_flushed out.new;
+          unwritten = F.is_unwritten outside.new.files;
         }) }
 {
     let alloc = system.alloc;
@@ -132,7 +133,7 @@ fn text_of<S: Interpret + Drop, D: Deeds + Drop>(
 
 /// Writes the text of what is asked for. Where the output doesn't take all of it that is told.
 fn write_view<W: Flushing, X: Telling>(text: &[u8], out: &mut W, err: &mut X) -> Status
-    ensures { (files : driving.Contents) → IsShown text.now result (record {
+    ensures { (files : driving.Contents) (unwritten : Bool) → IsShown text.now result (record {
       out_old = W.contents out.old;
       out_new = W.contents out.new;
       err_old = X.told err.old;
@@ -140,6 +141,7 @@ fn write_view<W: Flushing, X: Telling>(text: &[u8], out: &mut W, err: &mut X) ->
       files_old = files;
       files_new = files;
       flushed = W.is_flushed out.new;
+      unwritten = unwritten;
     }) }
 {
     if hand_out(out, text).is_err() {

@@ -1,14 +1,15 @@
-//! Bytes written as far as an output takes them, and lines that are told.
+//! Bytes written as far as an output takes them, and lines that are told, or kept to be.
 
 ghost use Rattle.std.specs.Prelude.{◌≡◌, ◌++◌, true, OnOk, codes};
 ghost use Rattle.std.specs.Fmt.{decimal};
 ghost use Rattle.std.specs.Io.KnownBytes.{Appends};
 ghost use Rattle.ps_vault.specs.Screens.{AppendsPart};
-ghost use Rattle.ps_run.specs.Driving.{number_line, unwritten_line};
+ghost use Rattle.ps_run.specs.Driving.{ending_lines, number_line, unwritten_line};
 ghost use Rattle.ps_run.specs.Telling.{Tells};
 
 use crate::outputs::{Flushing, Telling};
 use itoa::Buffer;
+use std::alloc::AllocError;
 use std::io::{self, ErrorKind, Write};
 
 /// Writes bytes; where a write fails the output has a beginning of them.
@@ -59,4 +60,22 @@ pub(crate) fn tell_number<X: Telling>(err: &mut X, label: &[u8], number: u64)
     err.tell(label);
     err.tell(digits.format(number).as_bytes());
     err.tell(b"\n");
+}
+
+/// Appends a label, a number and the end of the line. Fails where a growth is refused.
+pub(crate) fn append_number(label: &[u8], number: u64, to: &mut Vec<u8>) -> Result<(), AllocError>
+    ensures { OnOk result (to.new.items ≡ to.old.items ++ number_line label.now number) }
+{
+    let mut digits = Buffer::new();
+    to.extend_from_slice(label)?;
+    to.extend_from_slice(digits.format(number).as_bytes())?;
+    to.extend_from_slice(b"\n")
+}
+
+/// Appends how many runs there were, and how many endings. Fails where a growth is refused.
+pub(crate) fn append_runs(runs: u64, endings: usize, to: &mut Vec<u8>) -> Result<(), AllocError>
+    ensures { OnOk result (to.new.items ≡ to.old.items ++ ending_lines runs endings) }
+{
+    append_number(b"runs ", runs, to)?;
+    append_number(b"endings ", endings as u64, to)
 }

@@ -1,5 +1,5 @@
 -- The command line of the program, as rules of clap.
-use Rattle.std.specs.Prelude.{◌≡◌, ◌==◌, ◌<◌, ◌≤◌, ◌^◌, ℕ, Bool, ◌&&◌, ◌||◌, List, [], ◌∷◌, Option, Some, None, is_some, is_none, true, false, length, drop, nat_eq, codes, unwrap_or, option_map, option_and_then, if◌then◌else◌}
+use Rattle.std.specs.Prelude.{◌≡◌, ◌==◌, ◌<◌, ◌≤◌, ◌^◌, ℕ, Bool, ◌&&◌, ◌||◌, List, [], ◌∷◌, Option, Some, None, is_some, is_none, true, false, not, length, drop, nat_eq, codes, unwrap_or, option_map, option_and_then, if◌then◌else◌}
 use Rattle.std.specs.Char.{is_ascii_digit}
 use Rattle.std.specs.List.{list_all, starts_with}
 use Rattle.std.specs.Str.{bytes_eq}
@@ -10,7 +10,7 @@ use Rattle.ps_run_options.specs.Sizes.{is_within, size_of}
 use Rattle.ps_run_options.specs.Views.{is_viewed, view_in}
 use Rattle.ps_run_options.specs.declared.views.View.{View}
 use Rattle.ps_run_options.specs.declared.options.Exploration.{Exploration}
-use Rattle.ps_run_options.specs.declared.options.Exploration.TheVariants.{ByChance, EachOrder}
+use Rattle.ps_run_options.specs.declared.options.Exploration.TheVariants.{ByChance, EachOrder, EachWorld}
 use Rattle.clap.specs.declared.builder.action.ArgAction.TheVariants.{SetTrue}
 use Rattle.clap.specs.declared.error.kind.ErrorKind.TheVariants.{ArgumentConflict, MissingRequiredArgument, ValueValidation}
 use Rattle.clap.specs.declared.builder.value_parser.ValueParser.TheVariants.{Unsigned}
@@ -62,8 +62,8 @@ with_flags app = with_rule
 -- which runs are explored, and the bounds of all orders
 abbrev pub with_explored : App → App
 with_explored app = with_rule
-    (with_rule (with_rule app (valued_rule (codes "explore"))) (valued_rule (codes "cuts")))
-    (valued_rule (codes "runs"))
+    (with_rule (with_rule (with_rule app (valued_rule (codes "explore"))) (valued_rule (codes "cuts")))
+    (valued_rule (codes "runs"))) (valued_rule (codes "worlds"))
 
 -- the schedules: the files that have them, what is told of one, the file of a run's picture, and
 -- which schedules are explored
@@ -122,14 +122,17 @@ abbrev pub is_all : Option Text → Bool
 is_all None = false
 is_all (Some text) = bytes_eq text (codes "all")
 
--- all orders want a bound on their cuts, and else there is none on cuts or runs
-abbrev pub misses : (given : Text → Option Text) → Bool
-misses given = if is_all (given (codes "explore")) then is_none (given (codes "cuts"))
-    else (is_some (given (codes "cuts")) || is_some (given (codes "runs")))
+-- a bound stands there without what it bounds: cuts and worlds without all orders, runs without
+-- cuts; or worlds are bounded beside cuts
+abbrev pub misbounds : (given : Text → Option Text) → Bool
+misbounds given = is_some (given (codes "cuts")) && not (is_all (given (codes "explore")))
+    || is_some (given (codes "runs")) && is_none (given (codes "cuts"))
+    || is_some (given (codes "worlds"))
+    && (is_some (given (codes "cuts")) || not (is_all (given (codes "explore"))))
 
 abbrev pub is_excluded : List Text → Bool
 is_excluded words =
-    excludes (λ name. named_in name words) || misses (λ name. named_in name words)
+    excludes (λ name. named_in name words) || misbounds (λ name. named_in name words)
 
 -- a number in decimal, of any size
 abbrev pub is_number : Text → Bool
@@ -193,6 +196,7 @@ are_sized given = is_sized 4096 1048576 (given (codes "space"))
 abbrev pub are_explored : (given : Text → Option Text) → Bool
 are_explored given = is_sized 0 255 (given (codes "cuts"))
     && is_sized 1 4294967295 (given (codes "runs"))
+    && is_sized 1 4294967295 (given (codes "worlds"))
     && (is_all (given (codes "explore")) || is_sized 1 65535 (given (codes "explore")))
 
 abbrev pub are_sizes : List Text → Bool
@@ -246,14 +250,19 @@ pub record AreNumbers (words : List Text) (numbers : Numbers) : Type 0 where
   pub quantum : IsNumber (codes "quantum") words numbers.quantum
   pub steps : numbers.steps ≡ unwrap_or (size_in (codes "steps") words) 1000000000
 
--- which runs are made, where it isn't a single one; the search of all orders makes at most a
--- million
+-- all orders: with so many cuts, where they are bounded, in at most a million runs; else by at most
+-- 100,000 worlds
+abbrev pub all_orders : (cuts runs worlds : Option ℕ) → Exploration
+all_orders (Some most) runs worlds =
+    EachOrder (record { cuts = most; runs = unwrap_or runs 1000000 })
+all_orders None runs worlds = EachWorld (unwrap_or worlds 100000)
+
+-- which runs are made, where it isn't a single one
 abbrev pub exploration_of : (given : Text → Option Text) → Option Exploration
 exploration_of given = if is_all (given (codes "explore"))
-    then option_map (λ most. EachOrder (record {
-      cuts = most;
-      runs = unwrap_or (option_and_then size_of (given (codes "runs"))) 1000000;
-    })) (option_and_then size_of (given (codes "cuts")))
+    then Some (all_orders (option_and_then size_of (given (codes "cuts")))
+    (option_and_then size_of (given (codes "runs")))
+    (option_and_then size_of (given (codes "worlds"))))
     else option_map ByChance (option_and_then size_of (given (codes "explore")))
 
 -- by such words
@@ -264,6 +273,7 @@ exploration_in words = exploration_of (λ name. named_in name words)
 abbrev pub IsExploration : Exploration → Type 0
 IsExploration (ByChance runs) = (1 ≤ runs) × (runs ≤ 65535)
 IsExploration (EachOrder bounds) = (bounds.cuts ≤ 255) × (1 ≤ bounds.runs)
+IsExploration (EachWorld most) = 1 ≤ most
 
 -- whether a flag stands in such words, by its text
 pub record IsFlag (name : Text) (words : List Text) (truth : Bool) : Type 0 where

@@ -14,8 +14,8 @@ const USAGE: &str = "dpsrun [OPTIONS] <FILE>\n       dpsrun [OPTIONS] -e <TEXT>"
 
 /// What the help says behind all options.
 const UNITS: &str =
-    "The N of --space, --steps, --output, --entries, --explore, --runs and --at may \
-    end in k, m or g: 1,024, its square or its cube.";
+    "The N of --space, --steps, --output, --entries, --explore, --runs, --worlds and \
+    --at may end in k, m or g: 1,024, its square or its cube.";
 
 /// The command line's form. Numbers out of their ranges are refused; an option may be given once.
 pub(crate) fn command<'a>(alloc: Global) -> Result<Command<'a>, AllocError>
@@ -147,22 +147,29 @@ fn with_explored<'a>(alloc: Global, command: Command<'a>) -> Result<Command<'a>,
         alloc,
         "explore",
         "N",
-        "run the program under N schedules chosen by chance, or, where N is all, in each order with \
-            at most --cuts cuts; tell how many endings there were",
+        "run the program under N schedules chosen by chance, or, where N is all, in each order of its \
+            steps; tell how many endings there were",
     );
     let cuts = valued(
         alloc,
         "cuts",
         "N",
-        "most cuts of an order of --explore all: steps of another context than whoever is due",
+        "most cuts of an order of --explore all: steps of another context than whoever is due; without \
+            it there is no bound, and each state is followed once",
     );
     let runs = valued(
         alloc,
         "runs",
         "N",
-        "most runs of --explore all; without it 1,000,000",
+        "most runs of --explore all with --cuts; without it 1,000,000",
     );
-    command.arg(explore)?.arg(cuts)?.arg(runs)
+    let worlds = valued(
+        alloc,
+        "worlds",
+        "N",
+        "most states of --explore all without --cuts; without it 100,000",
+    );
+    command.arg(explore)?.arg(cuts)?.arg(runs)?.arg(worlds)
 }
 
 /// The program: its text, or its file.

@@ -27,14 +27,17 @@ const TIMELINE_EXCLUDED: &str = "the argument '--timeline <FILE>' cannot be used
 /// What is told of a stream that is asked for beside many runs.
 const STREAM_EXCLUDED: &str = "the argument '--stream' cannot be used with '--explore <N>'";
 
-/// What is told of all orders without a bound on their cuts.
-const CUTS_MISSED: &str = "the argument '--explore all' can only be used with '--cuts <N>'";
-
 /// What is told of a bound on cuts without all orders.
 const CUTS_ALONE: &str = "the argument '--cuts <N>' can only be used with '--explore all'";
 
-/// What is told of a bound on runs without all orders.
-const RUNS_ALONE: &str = "the argument '--runs <N>' can only be used with '--explore all'";
+/// What is told of a bound on runs without one on cuts.
+const RUNS_ALONE: &str = "the argument '--runs <N>' can only be used with '--cuts <N>'";
+
+/// What is told of a bound on worlds without all orders.
+const WORLDS_ALONE: &str = "the argument '--worlds <N>' can only be used with '--explore all'";
+
+/// What is told of a bound on worlds beside one on cuts.
+const WORLDS_EXCLUDED: &str = "the argument '--worlds <N>' cannot be used with '--cuts <N>'";
 
 /// What is told of a record that would take the place of the program.
 const OVERWRITTEN: &str = "the argument '--record <FILE>' would write over the program";
@@ -103,22 +106,27 @@ pub(crate) fn explores_all(matches: &ArgMatches<'_>) -> bool
     }
 }
 
-/// What is told where all orders have no bound on their cuts in the words of the matches, or a bound
-/// stands there without them.
-fn missed(matches: &ArgMatches<'_>) -> Option<&'static str>
-    ensures { is_some result ≡ spec.misses (first_value (found_of matches.now)) }
+/// What is told where a bound stands in the words of the matches without what it bounds, or beside
+/// another that it can't be used with.
+fn misbounded(matches: &ArgMatches<'_>) -> Option<&'static str>
+    ensures { is_some result ≡ spec.misbounds (first_value (found_of matches.now)) }
 {
     let bounds_cuts = matches.get_str("cuts").is_some();
-    if explores_all(matches) {
-        return if bounds_cuts { None } else { Some(CUTS_MISSED) };
-    }
-    if bounds_cuts {
+    if bounds_cuts && !explores_all(matches) {
         return Some(CUTS_ALONE);
     }
-    if matches.get_str("runs").is_some() {
+    if matches.get_str("runs").is_some() && !bounds_cuts {
         return Some(RUNS_ALONE);
     }
-    None
+    matches.get_str("worlds")?;
+    if bounds_cuts {
+        return Some(WORLDS_EXCLUDED);
+    }
+    if explores_all(matches) {
+        None
+    } else {
+        Some(WORLDS_ALONE)
+    }
 }
 
 /// What is told where the words of the matches ask for many runs, and for what a single one alone
@@ -168,11 +176,11 @@ fn excluded(matches: &ArgMatches<'_>) -> Option<&'static str>
 /// without what doesn't.
 pub(crate) fn misused(matches: &ArgMatches<'_>) -> Option<&'static str>
     ensures { is_some result ≡ (spec.excludes (first_value (found_of matches.now))
-        || spec.misses (first_value (found_of matches.now))) }
+        || spec.misbounds (first_value (found_of matches.now))) }
 {
     match excluded(matches) {
         Some(text) => Some(text),
-        None => missed(matches),
+        None => misbounded(matches),
     }
 }
 

@@ -55,6 +55,8 @@ pub enum Exploration {
     ByChance(u32),
     /// One in each order of its steps, within these bounds.
     EachOrder(OrderBounds),
+    /// Such that each state that its steps come to is followed; at most so many are kept, at least 1.
+    EachWorld(u32),
 }
 
 /// What the command line asks for.
@@ -194,18 +196,25 @@ fn viewed<'a>(matches: &ArgMatches<'a>) -> Result<Option<View>, BadSize<'a>>
     }
 }
 
-/// All orders with at most so many cuts, if those are bounded.
-fn each_order(cuts: Option<u32>, runs: Option<u32>) -> Option<Exploration>
-    ensures { result ≡ option_map (λ most. Exploration.EachOrder (record {
-      cuts = most;
-      runs = unwrap_or runs 1000000;
-    })) cuts }
+/// The bounds that words give of all orders, if they do.
+#[derive(Clone, Copy, Debug)]
+struct Bounds {
+    cuts: Option<u32>,
+    runs: Option<u32>,
+    worlds: Option<u32>,
+}
+
+/// All orders within these bounds: by cuts where those are bounded, else by worlds.
+fn each_order(bounds: Bounds) -> Exploration
+    ensures { result ≡ spec.all_orders bounds.cuts bounds.runs bounds.worlds }
 {
-    let cuts = cuts?;
-    Some(Exploration::EachOrder(OrderBounds {
-        cuts,
-        runs: runs.unwrap_or(1_000_000),
-    }))
+    match bounds.cuts {
+        Some(cuts) => Exploration::EachOrder(OrderBounds {
+            cuts,
+            runs: bounds.runs.unwrap_or(1_000_000),
+        }),
+        None => Exploration::EachWorld(bounds.worlds.unwrap_or(100_000)),
+    }
 }
 
 /// Which runs are asked for in the words of the matches, where it isn't a single one. Fails by the
@@ -216,10 +225,13 @@ fn exploration_of<'a>(matches: &ArgMatches<'a>) -> Result<Option<Exploration>, B
     ensures range { IfOk result (λ found. IfSome found spec.IsExploration) }
     ensures are { is_ok result ≡ spec.are_explored (first_value (found_of matches.now)) }
 {
-    let cuts = sized(matches, "cuts", 0, 255)?;
-    let runs = sized(matches, "runs", 1, u32::MAX)?;
+    let bounds = Bounds {
+        cuts: sized(matches, "cuts", 0, 255)?,
+        runs: sized(matches, "runs", 1, u32::MAX)?,
+        worlds: sized(matches, "worlds", 1, u32::MAX)?,
+    };
     if explores_all(matches) {
-        return Ok(each_order(cuts, runs));
+        return Ok(Some(each_order(bounds)));
     }
     match sized(matches, "explore", 1, 65535)? {
         Some(runs) => Ok(Some(Exploration::ByChance(runs))),
@@ -290,8 +302,8 @@ pub fn overwritten(alloc: Global, written: OutputFile) -> Result<Error, AllocErr
 /// text of a size is none in its range; or that a schedule is given and `--plain`, `--record`,
 /// `--explore` or `--entries` stands there too, or `--explore` and `--stream`, `--where` or
 /// `--timeline`, or `--at` without a schedule, or with `--stream`, `--where`, `--stats`, `--output` or
-/// `--timeline`; or that all orders are asked for without `--cuts`, or `--cuts` or `--runs` without
-/// them; or that a record would be written over the program, or a picture over the program or a
+/// `--timeline`; or `--cuts` or `--worlds` without all orders, `--runs` without `--cuts`, or
+/// `--worlds` beside it; or that a record would be written over the program, or a picture over the program or a
 /// schedule, as far as the names tell; or want of memory.
 pub fn parse<'a>(alloc: Global, words: &'a [&'a str]) -> Result<Options<'a>, Error>
     ensures fault { FailsBy (spec.faults_in (map (λ word. word.now) words.entry.now)) result }

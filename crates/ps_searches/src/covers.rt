@@ -6,6 +6,7 @@ ghost use Rattle.ps_searches.specs.Graphs.{EveryEnd, IsEndOf, IsKept, AreKept, A
 
 use crate::found::add_ending;
 use crate::graphs::RunGraph;
+use crate::trees::Watcher;
 use indexmap::IndexMap;
 use std::alloc::{AllocError, Global};
 use std::hash::Hash;
@@ -216,6 +217,7 @@ fn follow<G: RunGraph>(
         G.steps (G.Ends graph.now) cover.new.kept.entries cover.new.endings.entries place) }
     ensures met { IsErrOf result Halt.Most → length cover.new.kept.entries ≡ cover.new.most }
     ensures most { cover.new.most ≡ cover.old.most }
+    ensures fewer { length cover.new.endings.entries ≤ length cover.old.endings.entries + 1 }
     ensures steps { cover.new.steps ≤ place * 2 ^ 32 + 2 ^ 32 }
     ensures ways { OnOk result (AddsWays (G.price graph.now) (G.IsImage graph.now) G.Makes G.steps
         cover.old.kept.entries place cover.old.steps cover.new.steps) }
@@ -229,10 +231,11 @@ fn follow<G: RunGraph>(
     follow_each(graph, &mut run, place, cover)
 }
 
-/// Follows each world.
-fn cover_all<G: RunGraph>(
+/// Follows each world, and tells a watcher of it.
+fn cover_all<G: RunGraph, W: Watcher>(
     graph: &G,
     cover: &mut Coverage<G::Image, G::Ending, G::Schedule>,
+    watcher: &mut W,
 ) -> Result<(), Halt>
     requires kept { cover.old.kept.entries ≡ [] }
     requires endings { cover.old.endings.entries ≡ [] }
@@ -248,6 +251,7 @@ fn cover_all<G: RunGraph>(
     ensures between { OnOk result (AreBetween (G.price graph.now) (G.IsImage graph.now) G.Makes
         G.steps cover.new.kept.entries (length cover.new.kept.entries) cover.new.steps) }
     ensures met { IsErrOf result Halt.Most → length cover.new.kept.entries ≡ cover.old.most }
+    ensures fewer { length cover.new.endings.entries ≤ length cover.new.kept.entries }
 {
     let mut run = graph.start()?;
     keep(graph, &mut run, cover.most, &mut cover.kept)?;
@@ -255,6 +259,7 @@ fn cover_all<G: RunGraph>(
     while place < cover.kept.len() {
         follow(graph, place, cover)?;
         place += 1;
+        watcher.world_followed(cover.kept.len(), place, cover.endings.len());
     }
     Ok(())
 }
@@ -262,12 +267,14 @@ fn cover_all<G: RunGraph>(
 /// Looks for every world that the runs of a graph come to, and tells how they end: each ending
 /// once, with a schedule whose run ends so and as few steps as any such.
 ///
-/// At most so many worlds are kept. Where each was followed, there is no other ending, and no other
-/// world: of no schedule, however long. `AllocError`: a growth was refused.
-pub fn cover<G: RunGraph>(
+/// At most so many worlds are kept, and there are no more endings than worlds. Where each was
+/// followed, there is no other ending, and no other world: of no schedule, however long. A watcher is
+/// told how far it is. `AllocError`: a growth was refused.
+pub fn cover<G: RunGraph, W: Watcher>(
     alloc: Global,
     graph: &G,
     most: u32,
+    watcher: &mut W,
 ) -> Result<Covered<G::Ending, G::Schedule>, AllocError>
     ensures every { IfOk result (λ covered. covered.extent ≡ Extent.All
         → EveryEnd (G.price graph.now) (G.Ends graph.now) covered.endings.entries) }
@@ -276,10 +283,13 @@ pub fn cover<G: RunGraph>(
     ensures worlds { IfOk result (λ covered. AreWorlds (G.price graph.now) (G.IsImage graph.now)
         G.Makes G.steps G.Image.eq covered.worlds covered.steps (covered.extent ≡ Extent.All)) }
     ensures within { IfOk result (λ covered. covered.worlds ≤ most) }
+    ensures fewer { IfOk result (λ covered. length covered.endings.entries ≤ covered.worlds) }
     ensures met { IfOk result (λ covered. covered.extent ≡ Extent.Most → covered.worlds ≡ most) }
 {
     let mut cover = Coverage::new(alloc, most);
-    let extent = match cover_all(graph, &mut cover) {
+    let halt = cover_all(graph, &mut cover, watcher);
+    watcher.search_ended();
+    let extent = match halt {
         Ok(()) => Extent::All,
         Err(Halt::Most) => Extent::Most,
         Err(Halt::Lost) => Extent::Lost,

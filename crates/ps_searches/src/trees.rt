@@ -100,6 +100,9 @@ pub trait Watcher {
     /// So many runs were made to their end, and so many endings told; the last cost so much.
     fn run_ended(&mut self, runs: u64, endings: usize, price: u32);
 
+    /// So many worlds were told apart, and so many of them followed, with so many endings.
+    fn world_followed(&mut self, worlds: usize, followed: usize, endings: usize);
+
     /// The search is over.
     fn search_ended(&mut self);
 }
@@ -110,6 +113,8 @@ pub struct NoWatcher;
 
 impl Watcher for NoWatcher {
     fn run_ended(&mut self, _runs: u64, _endings: usize, _price: u32) {}
+
+    fn world_followed(&mut self, _worlds: usize, _followed: usize, _endings: usize) {}
 
     fn search_ended(&mut self) {}
 }

@@ -1,5 +1,6 @@
 mod Examples
 mod StepExamples
+mod MomentExamples
 pub mod Beside
 pub mod Calling
 pub mod Each

@@ -1,5 +1,5 @@
 -- What the line of a step tells, by examples that a near neighbour of the definitions fails.
-use Rattle.std.proofs.Common.{◌≡◌, refl, List, [], ◌∷◌, ◌++◌, Option, Some, None, false}
+use Rattle.std.proofs.Common.{◌≡◌, refl, List, [], ◌∷◌, ◌++◌, Option, Some, None, Bool, true, false}
 use Rattle.std.specs.Prelude.{codes}
 use Rattle.std.specs.Fmt.{decimal}
 use Rattle.ps_language.specs.Contexts.{context_at}
@@ -10,9 +10,11 @@ use Rattle.ps_language.specs.Texts.{full_text}
 use Rattle.ps_language.specs.World.{for_exit, Frame, monitor_frame, Status, running, unwinding, Context, World}
 use Rattle.ps_views.specs.declared.states.StatusLine.TheVariants.{Ready, Finished, InJoin}
 use Rattle.ps_states.specs.States.{locks_of}
-use Rattle.ps_states.specs.Steps.{operands_text, started, printed_text, lock_beside, locks_at, is_stopping, status_remark, left_text, and_remark}
+use Rattle.ps_views.specs.declared.frames.Coming.TheVariants.{Nothing}
+use Rattle.ps_states.specs.Next.{bare}
+use Rattle.ps_states.specs.Steps.{Known, remarks_text, operands_text, started, printed_text, lock_beside, locks_at, is_stopping, status_remark, left_text, and_remark}
 
-abbrev one_of : Status → List Frame → Context
+abbrev pub one_of : Status → List Frame → Context
 one_of status frames = record {
   operands = [];
   dictionaries = [];
@@ -26,7 +28,7 @@ abbrev some_of : List Context → List (Option Context)
 some_of [] = []
 some_of (one ∷ rest) = Some one ∷ some_of rest
 
-abbrev world_of : List Object → List Context → World
+abbrev pub world_of : List Object → List Context → World
 world_of store contexts = record {
   program = [];
   store = store;
@@ -106,3 +108,24 @@ second_remark = refl
 
 no_remark : and_remark (codes "frees") None ≡ codes "frees"
 no_remark = refl
+
+-- a step that isn't made is no end of its context
+abbrev known_if : (is_made : Bool) → Known
+known_if is_made = record {
+  step = 1;
+  context = 1;
+  is_made = is_made;
+  next = bare Nothing;
+  contexts = 0;
+  printed = 0;
+  locks = [];
+  stops = false;
+}
+
+idle : remarks_text (known_if false) (world_of [] []) ≡ []
+unfolding remarks_text
+idle = refl
+
+ended : remarks_text (known_if true) (world_of [] []) ≡ codes "ends"
+unfolding remarks_text context_at
+ended = refl

@@ -21,6 +21,7 @@ abbrev pub known_shown : KnownOf → Known
 known_shown known = record {
   step = known.by.step;
   context = known.by.context;
+  is_made = known.is_made;
   next = next_shown known.next;
   contexts = known.contexts;
   printed = known.printed;

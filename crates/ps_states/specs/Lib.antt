@@ -4,6 +4,8 @@ pub mod Cuts
 pub mod Held
 pub mod Moments
 pub mod Next
+pub mod Sought
 pub mod States
 pub mod Statuses
 pub mod Steps
+pub mod Waits

@@ -58,11 +58,13 @@ step_next chart now identifier =
     option_map_or (ready_next chart now.store (is_ready now identifier)) (context_at now identifier)
     (bare Nothing)
 
--- the number of the step and its context; what it does; how many contexts were made and bytes
--- printed; and of its context the locks that it has, and whether it is unwinding for stop
+-- the number of the step and its context; whether it is made, and what it does; how many contexts
+-- were made and bytes printed; and of its context the locks that it has, and whether it is unwinding
+-- for stop
 pub record Known : Type 0 where
   pub step : ℕ
   pub context : ℕ
+  pub is_made : Bool
   pub next : Next
   pub contexts : ℕ
   pub printed : ℕ
@@ -73,6 +75,7 @@ abbrev pub known_of : Chart → World → (step identifier : ℕ) → Known
 known_of chart now step identifier = record {
   step = step;
   context = identifier;
+  is_made = is_ready now identifier;
   next = step_next chart now identifier;
   contexts = length now.contexts;
   printed = length now.printed;
@@ -147,12 +150,16 @@ and_locks told before behind = and_remark
     (and_remark told (option_map (λ lock. remark_text (Takes lock)) (lock_beside behind before)))
     (option_map (λ lock. remark_text (Frees lock)) (lock_beside before behind))
 
--- all of them
-unfoldable pub remarks_text : Known → World → List ℕ
-remarks_text known after = and_remark
+-- all of them, where it is made
+abbrev pub made_text : Known → World → List ℕ
+made_text known after = and_remark
     (and_remark (and_locks (and_outward [] known after) known.locks (locks_at after known.context))
     (stopped known.stops after known.context))
     (left_text after known.context (context_at after known.context))
+
+-- and none where it isn't
+unfoldable pub remarks_text : Known → World → List ℕ
+remarks_text known after = if known.is_made then made_text known after else []
 
 -- ---- the step, and all steps
 

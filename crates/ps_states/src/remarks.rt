@@ -233,8 +233,8 @@ fn and_outward<M: Memory>(
     and_printed(&printed[known.printed.min(printed.len())..], to)
 }
 
-/// What others see of a step, from what was known before it and what there is behind it. The memory
-/// is only read. Fails where a growth is refused.
+/// What others see of a step, from what was known before it and what there is behind it: nothing,
+/// where it wasn't made. The memory is only read. Fails where a growth is refused.
 #[tactic(auto, unfolding(crate::specs::Steps::remarks_text))]
 pub(crate) fn remarks_of<M: Memory, D: Deeds>(
     alloc: Global,
@@ -251,6 +251,9 @@ pub(crate) fn remarks_of<M: Memory, D: Deeds>(
         → IfOk result (λ text. text.items ≡ steps.remarks_text (known_shown known.now) w) }
 {
     let mut text = Vec::new(alloc);
+    if !known.is_made {
+        return Ok(text);
+    }
     and_outward(crowd.contexts, known, runtime, &mut text)?;
     let locks = locks_at(alloc, crowd.contexts, known.by.context, runtime)?;
     and_locks(known.locks.as_slice(), locks.as_slice(), &mut text)?;

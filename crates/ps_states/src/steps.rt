@@ -37,6 +37,8 @@ pub struct StepBy {
 #[derive(Drop)]
 pub struct Known {
     pub(crate) by: StepBy,
+    /// Whether it is made: whether its context is ready.
+    pub(crate) is_made: bool,
     pub(crate) next: Next,
     /// How many contexts were made.
     pub(crate) contexts: u32,
@@ -137,10 +139,14 @@ pub fn known_of<M: Memory, D: Deeds>(
         → IfOk result (λ known. known_shown known
         ≡ steps.known_of (chart_of chart.now) w by.step by.context) }
 {
+    let is_made = crowd
+        .operators
+        .is_ready(by.context, crowd.contexts, runtime);
     let next = step_next(chart, crowd, by.context, runtime)?;
     let locks = locks_at(chart.alloc, crowd.contexts, by.context, runtime)?;
     Ok(Known {
         by,
+        is_made,
         next,
         contexts: crowd.contexts.table.made(),
         printed: runtime.shared.printed.as_slice().len(),

@@ -14,6 +14,10 @@
 //! its first step; a store waits until the cycle has ended.
 //! `cuts LIMIT`: in each order of its steps with at most so many cuts; what comes of it is how many
 //! orders there are, and how many cuts each ending takes.
+//! `worlds MOST`: in each order of its steps, by the worlds that they come to, at most so many; what
+//! comes of it is how many there are, how many steps lie between them, whether these are all, and of
+//! each ending the steps, the outcome and the bytes. `endings MOST`: so too, but only the endings are
+//! compared, in any order: each stands in a field of its own, behind how many there are.
 //! `bounded SIZE`, `full SIZE`, `closed SIZE`: step by step in a space of so many words, with
 //! no cycle open, with a full log, with a closed one; what comes of it begins with why steps were
 //! not made.
@@ -22,12 +26,13 @@ use crate::chances::scheduled;
 use crate::collected::{MANY, Wanted, worked};
 use crate::held::held_up;
 use crate::meetings::collector_copies_while_a_put_is_half_done;
-use crate::orders::explored;
+use crate::orders::{covered, ends_as, explored};
 use crate::plays::{Play, StartingLog};
 use crate::runs::{CommandWords, ran, replayed};
 use anyhow::Result;
 use ps_run::System;
 use std::alloc::{AllocError, Global};
+use std::str::Split;
 use std::sync::Wait;
 use std::thread::Threads;
 
@@ -81,6 +86,15 @@ pub fn bytes_of(alloc: Global, field: &str) -> Result<Vec<u8>, AllocError> {
         bytes.extend_from_slice(rest)?;
     }
     Ok(bytes)
+}
+
+/// The bytes that each of these fields writes.
+fn all_bytes_of(alloc: Global, fields: Split<'_, char>) -> Result<Vec<Vec<u8>>, AllocError> {
+    let mut all = Vec::new(alloc);
+    for field in fields {
+        all.push(bytes_of(alloc, field)?)?;
+    }
+    Ok(all)
 }
 
 /// The program that a field writes: pieces with `|` between them, each perhaps behind `N*`, so many
@@ -148,6 +162,15 @@ pub fn verdict_of<R: Threads + Wait + Sync>(system: System<'_, R>, line: &str) -
         "cuts" => {
             let told = explored(alloc, keys, program.as_slice(), number)?;
             return Ok(Verdict::of(told.as_bytes() == wanted.as_slice()));
+        }
+        "worlds" => {
+            let told = covered(alloc, keys, program.as_slice(), number)?;
+            return Ok(Verdict::of(told.as_slice() == wanted.as_slice()));
+        }
+        "endings" => {
+            let endings = all_bytes_of(alloc, fields)?;
+            let (program, endings) = (program.as_slice(), endings.as_slice());
+            return Ok(Verdict::of(ends_as(alloc, keys, program, number, endings)?));
         }
         "bounded" => StartingLog::Idle,
         "full" => StartingLog::Full,

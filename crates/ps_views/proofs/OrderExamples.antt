@@ -36,8 +36,8 @@ deadlock : ending_line (record {
   steps = 25;
   printed = 0;
 }) (codes "all contexts wait") ≡ (codes "ending " ++ (decimal 3 ++ (codes ": " ++ (decimal 1 ++ codes " cut"))))
-    ++ ((codes ", " ++ ((decimal 25 ++ codes " steps")
-    ++ (codes ", " ++ (codes "all contexts wait" ++ codes ", "))))
-    ++ ((decimal 0 ++ codes " bytes") ++ codes "\n"))
+    ++ (codes ", " ++ (((decimal 25 ++ codes " steps")
+    ++ (codes ", " ++ (codes "all contexts wait" ++ codes ", ")))
+    ++ ((decimal 0 ++ codes " bytes") ++ codes "\n")))
 unfolding ending_line
 deadlock = refl

@@ -7,3 +7,4 @@ pub mod Places
 pub mod Sources
 pub mod States
 pub mod Steps
+pub mod Worlds

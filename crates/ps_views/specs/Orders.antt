@@ -32,11 +32,11 @@ which_text told = codes "ending "
     ++ (decimal told.number ++ (codes ": " ++ counted told.cuts (codes "cut")))
 
 -- its steps, and what its outcome is called
-abbrev pub came_to : (steps : ℕ) → (outcome : List ℕ) → List ℕ
-came_to steps outcome =
-    codes ", " ++ (counted steps (codes "step") ++ (codes ", " ++ (outcome ++ codes ", ")))
+abbrev pub steps_text : (steps : ℕ) → (outcome : List ℕ) → List ℕ
+steps_text steps outcome =
+    counted steps (codes "step") ++ (codes ", " ++ (outcome ++ codes ", "))
 
 -- ending NUMBER: NUMBER cuts, NUMBER steps, OUTCOME, NUMBER bytes
 unfoldable pub ending_line : EndingLine → (outcome : List ℕ) → List ℕ
-ending_line told outcome = which_text told
-    ++ (came_to told.steps outcome ++ (counted told.printed (codes "byte") ++ codes "\n"))
+ending_line told outcome = which_text told ++ (codes ", "
+    ++ (steps_text told.steps outcome ++ (counted told.printed (codes "byte") ++ codes "\n")))

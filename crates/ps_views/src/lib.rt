@@ -19,6 +19,7 @@ mod places;
 mod sources;
 mod states;
 mod steps;
+mod worlds;
 
 pub use bytes::{append, append_number};
 pub use cuts::{CutAt, CutLine, Turn, append_cut_line};
@@ -30,4 +31,7 @@ pub use states::{
     ContextHead, StateHead, StatusLine, append_context, append_dictionary, append_head,
     append_lock, append_next, append_operand,
 };
-pub use steps::{Remark, StepLine, append_remark, append_step_line, append_step_operand};
+pub use steps::{
+    Remark, StepLine, append_remark, append_step_coming, append_step_line, append_step_operand,
+};
+pub use worlds::{WorldEnding, WorldsFound, append_found, append_world_ending};

@@ -38,7 +38,7 @@ fn plural(number: u64) -> &'static [u8]
 }
 
 /// Appends so many of a thing.
-fn append_counted(number: u64, thing: &[u8], to: &mut Vec<u8>) -> Result<(), AllocError>
+pub(crate) fn append_counted(number: u64, thing: &[u8], to: &mut Vec<u8>) -> Result<(), AllocError>
     ensures appended { OnOk result
         (to.new.items ≡ to.old.items ++ spec.counted number thing.now) }
     ensures front { take (length to.old.items) to.new.items ≡ to.old.items }
@@ -120,15 +120,14 @@ fn append_which(told: &EndingLine, to: &mut Vec<u8>) -> Result<(), AllocError>
 }
 
 /// Appends the steps of an ending's order, and its outcome.
-fn append_came_to(steps: u64, outcome: &[u8], to: &mut Vec<u8>) -> Result<(), AllocError>
+pub(crate) fn append_steps(steps: u64, outcome: &[u8], to: &mut Vec<u8>) -> Result<(), AllocError>
     ensures appended { OnOk result
-        (to.new.items ≡ to.old.items ++ spec.came_to steps outcome.now) }
+        (to.new.items ≡ to.old.items ++ spec.steps_text steps outcome.now) }
     ensures front { take (length to.old.items) to.new.items ≡ to.old.items }
     ensures capacity { vec_capacity to.old ≤ vec_capacity to.new }
     ensures full { OnErr result
-        (vec_capacity to.old < length (to.old.items ++ spec.came_to steps outcome.now)) }
+        (vec_capacity to.old < length (to.old.items ++ spec.steps_text steps outcome.now)) }
 {
-    append(b", ", to)?;
     append_counted(steps, b"step", to)?;
     append(b", ", to)?;
     append(outcome, to)?;
@@ -152,7 +151,8 @@ pub fn append_ending(told: &EndingLine, outcome: &[u8], to: &mut Vec<u8>) -> Res
         (vec_capacity to.old < length (to.old.items ++ spec.ending_line told.now outcome.now)) }
 {
     append_which(told, to)?;
-    append_came_to(told.steps, outcome, to)?;
+    append(b", ", to)?;
+    append_steps(told.steps, outcome, to)?;
     append_counted(told.printed, b"byte", to)?;
     append(b"\n", to)
 }

@@ -97,7 +97,7 @@ fn append_coming_left(coming: Coming, value: &[u8], to: &mut Vec<u8>) -> Result<
         < length (to.old.items ++ at_left 18 (coming_text 30 coming value.now))) }
 {
     let start = to.len();
-    append_coming(VALUE_BYTES, coming, value, to)?;
+    append_step_coming(coming, value, to)?;
     let used = to.len() - start;
     append_repeated(b' ', DOING_WIDTH.saturating_sub(used), to)
 }
@@ -224,6 +224,21 @@ pub fn append_remark(remark: Remark, to: &mut Vec<u8>) -> Result<(), AllocError>
         Remark::Finishes => append(b"finishes", to),
         Remark::Ends => append(b"ends", to),
     }
+}
+
+/// Appends what a step does, as its line tells it: of the text of a value that it executes at most
+/// 30 bytes.
+///
+/// `AllocError`: a growth was refused; what stood before stays.
+pub fn append_step_coming(coming: Coming, value: &[u8], to: &mut Vec<u8>) -> Result<(), AllocError>
+    ensures appended { OnOk result
+        (to.new.items ≡ to.old.items ++ coming_text 30 coming value.now) }
+    ensures front { take (length to.old.items) to.new.items ≡ to.old.items }
+    ensures capacity { vec_capacity to.old ≤ vec_capacity to.new }
+    ensures full { OnErr result
+        (vec_capacity to.old < length (to.old.items ++ coming_text 30 coming value.now)) }
+{
+    append_coming(VALUE_BYTES, coming, value, to)
 }
 
 /// Appends the text of an operand in a step's line, in at most 24 bytes.

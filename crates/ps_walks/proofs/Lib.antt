@@ -1,5 +1,6 @@
 pub mod Cutting
 pub mod Drawing
+pub mod Finding
 pub mod Following
 pub mod Knowing
 pub mod Lining

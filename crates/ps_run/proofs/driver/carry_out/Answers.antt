@@ -30,6 +30,10 @@ pub returns-in-Some-EachOrder-clause-run : goal.returns-in-Some-EachOrder-clause
 returns-in-Some-EachOrder-clause-run g c = driven_more _ _ _ _ _ _ _ _ _ refl (λ asked is. is)
     (λ fault. inl fault) c.explore_each_order-status.ensures.run
 
+pub returns-in-Some-EachWorld-clause-run : goal.returns-in-Some-EachWorld-clause-run
+returns-in-Some-EachWorld-clause-run g c = driven_more _ _ _ _ _ _ _ _ _ refl (λ asked is. is)
+    (λ fault. inl fault) c.explore_each_world-status.ensures.run
+
 -- the files that many runs write are those of their records
 pub returns-in-Some-ByChance-clause-files : goal.returns-in-Some-ByChance-clause-files
 returns-in-Some-ByChance-clause-files g c = λ name other.
@@ -38,3 +42,7 @@ returns-in-Some-ByChance-clause-files g c = λ name other.
 pub returns-in-Some-EachOrder-clause-files : goal.returns-in-Some-EachOrder-clause-files
 returns-in-Some-EachOrder-clause-files g c = λ name other.
     c.explore_each_order-status.ensures.files name (λ is. other (inl is))
+
+pub returns-in-Some-EachWorld-clause-files : goal.returns-in-Some-EachWorld-clause-files
+returns-in-Some-EachWorld-clause-files g c = λ name other.
+    c.explore_each_world-status.ensures.files name (λ is. other (inl is))

@@ -46,6 +46,7 @@ returns-in-Ok-report-clause-run g c =
         status = c.finish-status.result.0;
         err = g.X.Telling.told c.finish-status.new.outside.err;
         files = g.F.FileSet.contents c.finish-status.new.outside.files;
+        unwritten = g.F.FileSet.is_unwritten c.finish-status.new.outside.files;
       };
       written =
           written_from _ _ _ _ report _ _ _ _
@@ -54,7 +55,7 @@ returns-in-Ok-report-clause-run g c =
           (c.in-Ok-read_given.ensures.kept ∙ c.in-Ok.ensures.kept)
           (c.finish-status.ensures.written first seen);
       drawn = c.draw.ensures.drawn c.in-Ok.program.items
-          (rw c.as_slice-bytes.ensures.value at c.in-Ok-agains_of.ensures.program);
+          (rw c.as_slice-bytes.ensures.value at c.in-Ok-second_runs_of.ensures.program);
       others = λ name apart. c.draw.ensures.others name apart;
       keeps = keeps_program _ _ (IsWrittenName (names_of c.args.options.now).recorded
           (names_of c.args.options.now).drawn None) c.in-Ok.program.items
@@ -105,4 +106,30 @@ returns-in-Ok-report-clause-unwritten g c = λ before after.
     elim (either (g.F.FileSet.is_unwritten c.finish-status.new.outside.files)) [
       | inl failed ↦ c.draw.ensures.usage (c.finish-status.ensures.unwritten start failed)
       | inr kept ↦ c.draw.ensures.unwritten kept after
+    ]
+
+-- a file that is written would have the program, or memory is wanted for its name
+pub returns-in-Err-keep_program-clause-run : goal.returns-in-Err-keep_program-clause-run
+returns-in-Err-keep_program-clause-run g c =
+    let new = g.X.Telling.told c.keep_program.new.err in
+    let errs = ap g.X.Telling.told c.in-Ok.ensures.told in
+    elim c.in-Err-keep_program.ensures.over [
+      | inl memory ↦ inr (inl (
+        memory.0,
+        inl refl,
+        c.in-Ok.ensures.kept,
+        subst (λ (old : Told). Tells old new (line_of status.Memory)) errs memory.1,
+      ))
+      | inr over ↦ inl (
+        over.0,
+        refl,
+        c.in-Ok.ensures.kept,
+        inl (inr (inr (record {
+          program = c.in-Ok.program.items;
+          is_program = c.in-Ok.ensures.program;
+          name = over.1;
+          is_written = over.2;
+          holds = rw (c.as_slice-bytes.ensures.value, c.in-Ok.ensures.kept) at over.3;
+        }))),
+      )
     ]

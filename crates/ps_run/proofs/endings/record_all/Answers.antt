@@ -49,7 +49,9 @@ returns-in_err-record_ending-clause-unrecorded g c =
           (g.F.FileSet.contents c.record_ending.new.outside.files) prefix endings count
           c.requires.few
           c.loop-number-test.true c.loop-number.invariant.recorded c.record_ending.ensures.others,
-      subst (λ (old : Told). TellsUnwritten (Some (numbered prefix (count + 1)))
+      subst (λ (old : Told).
+          TellsUnwritten (g.F.FileSet.is_unwritten c.record_ending.new.outside.files)
+          (Some (numbered prefix (count + 1)))
           c.in_err-record_ending.field-0.0 old (g.X.Telling.told c.record_ending.new.outside.err))
           (ap g.X.Telling.told c.loop-number.invariant.told)
           c.in_err-record_ending.ensures.unrecorded,

@@ -2,27 +2,21 @@ use Rattle.std.proofs.Common.{rules, ◌≡◌, ◌≤◌, ◌∙◌, ℕ, Optio
 use Rattle.std.specs.Prelude.{option_map}
 use Rattle.ps_run_options.specs.CommandLine.{IsExploration}
 use Rattle.ps_run_options.specs.declared.options.Exploration.TheVariants.{ByChance}
-use Rattle.ps_run.specs.Driving.{Contents, IsRecordName, asked_of, most_asked, most_endings, names_of}
+use Rattle.ps_run.specs.Driving.{Contents, IsRecordName, asked_of, ending_lines, line_of, most_asked, most_endings, names_of}
 use Rattle.ps_vault.specs.declared.reports.Config.{Config}
 use Rattle.ps_vault.specs.Endings.{AreEndings}
 use Rattle.ps_vault.specs.Reports.{Bounds, bounds_of}
-use Rattle.ps_vault.proofs.Endings.{endings_few, endings_some}
+use Rattle.ps_vault.proofs.Endings.{endings_few}
+use Rattle.ps_run.specs.Telling.{Tells, Told}
+use Rattle.ps_run.specs.declared.statuses.Status.TheVariants as status
 use Rattle.ps_run.proofs.Driven.{keeps_program}
-use Rattle.ps_run.proofs.ManyRuns.{all_written_from, endings_entries, record_fewer}
+use Rattle.ps_run.proofs.ManyRuns.{all_written_as, all_written_from, endings_entries, record_fewer}
 use Rattle.ps_run.proofs.ReadParts.{of_known}
 use Rattle.ps_run.proofs.Streamed.{of_report}
 use Rattle.ps_run.proofs.exploring.explore.Goals as goal
 
-pub finish_all-requires-clause-some : goal.finish_all-requires-clause-some
-finish_all-requires-clause-some g c =
-    let is-many : c.args.options.now.explore ≡ Some (ByChance c.in-Some-ByChance.runs) = search rules in
-    let made = of_report _ _ c.in-Ok-made.endings c.in-Ok-made.is c.explore-made.ensures in
-    let range = of_known c.args.options.now.explore IsExploration (ByChance c.in-Some-ByChance.runs)
-    is-many c.requires.range in
-    rw c.as_slice.ensures.value (endings_some _ _ _ _ _ _ made range.0)
-
-pub finish_all-requires-clause-few : goal.finish_all-requires-clause-few
-finish_all-requires-clause-few g c =
+pub finish_all-requires : goal.finish_all-requires
+finish_all-requires g c =
     let is-many : c.args.options.now.explore ≡ Some (ByChance c.in-Some-ByChance.runs) = search rules in
     let made = of_report _ _ c.in-Ok-made.endings c.in-Ok-made.is c.explore-made.ensures in
     let few = endings_few _ _ _ _ _ _ made in
@@ -46,6 +40,8 @@ returns-in-Ok-made-clause-run g c =
     let same = ap length c.as_slice.ensures.value in
     let fewer : length c.as_slice.result.now ≤ c.in-Some-ByChance.runs =
     omega (arith, few, same) in
+    let lines : c.as_slice-in-Ok-made.result.now
+    ≡ ending_lines c.in-Some-ByChance.runs (length c.in-Ok-made.endings.items) = search rules in
     inr (inr (inr (inl (record {
       asked = asked_of c.args.options.now;
       is_asked = refl;
@@ -61,9 +57,11 @@ returns-in-Ok-made-clause-run g c =
           c.config_of-config.result.steps n c.in-Some-ByChance.runs c.in-Ok-made.endings.items) most made);
       entries = endings_entries _ _ _ _ _ _ (omega (arith, c.config_of-config.type_inv)) made;
       written =
-          all_written_from _ _ _ _ _ _ _ _
+          all_written_from _ _ _ _ _ _ _
           (ap g.X.Telling.told (c.in_default-keep_program.ensures.told ∙ c.in-Ok.ensures.told))
-          c.in-Ok.ensures.kept (rw c.as_slice.ensures.value at c.finish_all.ensures.written);
+          c.in-Ok.ensures.kept (all_written_as _ _ _ _ _ _ _ c.as_slice.ensures.value
+          lines
+          c.finish_all.ensures.written);
       keeps =
           keeps_program _ _ (IsRecordName (names_of c.args.options.now).recorded
           (Some c.in-Some-ByChance.runs)) c.in-Ok.program.items
@@ -87,3 +85,34 @@ returns-in-Ok-made-clause-files g c = λ name other.
     IsRecordName (names_of c.args.options.now).recorded many name)
     (ap (option_map most_endings) (sym is-many)) (record_fewer _ _ c.in-Some-ByChance.runs name fewer is)))
     ∙ ap (λ (contents : Contents). contents name) c.in-Ok.ensures.kept
+
+pub returns-in-Err-keep_program-clause-run : goal.returns-in-Err-keep_program-clause-run
+returns-in-Err-keep_program-clause-run g c =
+    let is-many : c.args.options.now.explore ≡ Some (ByChance c.in-Some-ByChance.runs) = search rules in
+    let new = g.X.Telling.told c.keep_program.new.err in
+    let errs = ap g.X.Telling.told c.in-Ok.ensures.told in
+    elim c.in-Err-keep_program.ensures.over [
+      | inl memory ↦ inr (inl (
+        memory.0,
+        inl refl,
+        c.in-Ok.ensures.kept,
+        subst (λ (old : Told). Tells old new (line_of status.Memory)) errs memory.1,
+      ))
+      | inr over ↦ inl (
+        over.0,
+        refl,
+        c.in-Ok.ensures.kept,
+        inl (inr (inr (record {
+          program = c.in-Ok.program.items;
+          is_program = c.in-Ok.ensures.program;
+          name = over.1;
+          is_written = elim over.2 [
+            | inl record_is ↦ inl (subst (λ (many : Option ℕ).
+                IsRecordName (names_of c.args.options.now).recorded many over.1)
+                (ap (option_map most_endings) (sym is-many)) record_is)
+            | inr picture_is ↦ inr picture_is
+          ];
+          holds = rw (c.as_slice-bytes.ensures.value, c.in-Ok.ensures.kept) at over.3;
+        }))),
+      )
+    ]

@@ -36,16 +36,8 @@ returns-clause-told g c =
       };
       are = are;
       are_reports = c.in_ok-reports.ensures;
-      are_runs = omega arith;
       are_lines = c.in_ok-lines.ensures;
     }
-
-pub returns-clause-some : goal.returns-clause-some
-returns-clause-some g c =
-    let found = c.in_ok-found.found in
-    let some = c.in_ok-found.ensures.some (omega (arith, c.from.ensures, c.requires.some)) in
-    let same = ap {B = ℕ} length c.in_ok-reports.ensures ∙ length_reports found.endings.entries in
-    omega (arith, some, same)
 
 pub returns-clause-few : goal.returns-clause-few
 returns-clause-few g c =
@@ -54,3 +46,12 @@ returns-clause-few g c =
     let runs = c.in_ok-found.ensures.runs in
     let same = ap {B = ℕ} length c.in_ok-reports.ensures ∙ length_reports found.endings.entries in
     omega (arith, fewer, runs, same, c.from.ensures)
+
+pub returns-clause-fits : goal.returns-clause-fits
+returns-clause-fits g c =
+    let found = c.in_ok-found.found in
+    let fewer = c.in_ok-found.ensures.fewer in
+    let runs = c.in_ok-found.ensures.runs in
+    let same = ap {B = ℕ} length c.in_ok-reports.ensures ∙ length_reports found.endings.entries in
+    let most : c.args.bounds.runs < 2 ^ 32 = search rules in
+    omega (arith, fewer, runs, same, c.from.ensures, most)

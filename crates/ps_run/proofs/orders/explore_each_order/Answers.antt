@@ -15,12 +15,12 @@ returns-clause-run g c =
     let explored = c.in-Ok-explore_all.explored in
     let file = program_name (names_of c.args.options.now) in
     let told : AreTold file c.in-Ok.program.items c.args.options.now.steps c.in-Some-EachOrder.bounds
-    explored.reports.items explored.runs explored.lines.items =
+    explored.reports.items explored.lines.items =
     subst (λ (name : List ℕ). AreTold name c.in-Ok.program.items c.args.options.now.steps
-    c.in-Some-EachOrder.bounds explored.reports.items explored.runs explored.lines.items)
+    c.in-Some-EachOrder.bounds explored.reports.items explored.lines.items)
     c.program_name-file.ensures
     (subst (λ (program : List ℕ). AreTold c.program_name-file.result.now program
-    c.args.options.now.steps c.in-Some-EachOrder.bounds explored.reports.items explored.runs
+    c.args.options.now.steps c.in-Some-EachOrder.bounds explored.reports.items
     explored.lines.items)
     (c.runs_of-runs.ensures ∙ c.as_slice-bytes.ensures.value) c.in-Ok-explore_all.ensures.told) in
     inr (inr (inr (inr (inl (record {
@@ -35,12 +35,12 @@ returns-clause-run g c =
       lines = explored.lines.items;
       are_lines = told.are_lines;
       written =
-          all_written_from (names_of c.args.options.now).recorded told.orders.runs
+          all_written_from (names_of c.args.options.now).recorded
           (map report_of told.orders.endings) explored.lines.items
           _ _ _ _
           (ap g.X.Telling.told (c.in_default-keep_program.ensures.told ∙ c.in-Ok.ensures.told))
           c.in-Ok.ensures.kept
-          (all_written_as _ _ _ _ _ _ _ _ _ told.are_runs
+          (all_written_as _ _ _ _ _ _ _
           (c.as_slice-endings.ensures.value ∙ told.are_reports)
           c.as_slice.ensures.value c.finish_all.ensures.written);
       keeps =
@@ -101,3 +101,15 @@ returns-in-Err-keep_program-clause-run g c =
         }))),
       )
     ]
+
+pub overflow_cast-records : goal.overflow_cast-records
+overflow_cast-records g c =
+    let fits = c.in-Ok-explore_all.ensures.fits in
+    let same = ap {B = ℕ} length c.as_slice-endings.ensures.value in
+    omega (arith, fits, same)
+
+pub finish_all-requires : goal.finish_all-requires
+finish_all-requires g c =
+    let fits = c.in-Ok-explore_all.ensures.fits in
+    let same = ap {B = ℕ} length c.as_slice-endings.ensures.value in
+    record { few = omega (arith, fits, same) }

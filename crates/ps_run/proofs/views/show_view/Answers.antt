@@ -4,7 +4,7 @@ use Rattle.ps_language.specs.declared.schedules.Entry.{Entry}
 use Rattle.ps_language.specs.Schedules.{count_of}
 use Rattle.ps_run_options.specs.Views.{last_step}
 use Rattle.ps_run_options.specs.declared.views.View.{View}
-use Rattle.ps_run.specs.Driving.{Contents, IsGiven, IsPastEnd, IsViewOf, asked_of, names_of, past_end_line, program_name}
+use Rattle.ps_run.specs.Driving.{Contents, IsGiven, IsPastEnd, IsViewOf, Outputs, asked_of, names_of, past_end_line, program_name}
 use Rattle.ps_run.specs.Telling.{Tells, Told}
 use Rattle.ps_run.proofs.Driven.{shown_as}
 use Rattle.ps_run.proofs.views.show_view.Goals as goal
@@ -64,7 +64,17 @@ returns-in-Ok-text_of-clause-run g c =
     c.as_slice-2.ensures.value
     (subst (λ (file : List ℕ). IsViewOf file c.as_slice-2.result.now c.as_slice-3.result.now view text)
     c.program_name.ensures c.in-Ok-text_of.ensures)) in
-    inr (inr (inr (inr (inr (inl (record {
+    let outputs : Outputs = record {
+      out_old = g.W.Write.contents c.args.out.now;
+      out_new = g.W.Write.contents c.write_view.new.out;
+      err_old = g.X.Telling.told c.read_given.new.outside.err;
+      err_new = g.X.Telling.told c.write_view.new.err;
+      files_old = contents;
+      files_new = contents;
+      flushed = g.W.Flushing.is_flushed c.write_view.new.out;
+      unwritten = g.F.FileSet.is_unwritten c.read_given.new.outside.files;
+    } in
+    inr (inr (inr (inr (inr (inr (inl (record {
       asked = asked_of c.args.options.now;
       is_asked = refl;
       view = view;
@@ -79,6 +89,6 @@ returns-in-Ok-text_of-clause-run g c =
       within = omega (arith, steps, c.if-steps-last.false, last);
       text = text;
       is_text = is_text;
-      written = shown_as _ _ _ _ _ _ c.as_slice-in-Ok-text_of.ensures.value errs (sym kept)
-          (c.write_view.ensures contents);
-    }))))))
+      written = shown_as _ _ _ outputs _ _ c.as_slice-in-Ok-text_of.ensures.value errs (sym kept)
+          (c.write_view.ensures contents outputs.unwritten);
+    })))))))

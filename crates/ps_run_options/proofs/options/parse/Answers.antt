@@ -9,7 +9,7 @@ use Rattle.clap.specs.declared.builder.command.Command.{Command}
 use Rattle.clap.specs.declared.parser.matches.ArgMatches.{ArgMatches}
 use Rattle.clap.proofs.OnLiterals.{clap_on_literals}
 use Rattle.clap.proofs.WalkLemmas.{first_value-rows, one_text-rows}
-use Rattle.ps_run_options.specs.CommandLine.{are_explored, are_sized, are_sizes, exploration_of, misses, command_line, faults_in, flag_in, excludes, is_excluded, named_in, overwrites_any, is_overwritten, own_faults, source_fault, tells_whole}
+use Rattle.ps_run_options.specs.CommandLine.{are_explored, are_sized, are_sizes, exploration_of, misbounds, command_line, faults_in, flag_in, excludes, is_excluded, named_in, overwrites_any, is_overwritten, own_faults, source_fault, tells_whole}
 use Rattle.ps_run_options.specs.Sizes.{size_of}
 use Rattle.ps_run_options.specs.Views.{view_in}
 use Rattle.ps_run_options.specs.declared.views.View.{View}
@@ -75,10 +75,10 @@ flag_is made words m id is has = one_text-rows (found_of m) id
 -- whether one thing excludes another, or wants one that isn't there
 excluded_is : (made : Command) (words : List Text) (m : ArgMatches) → app_of made ≡ command_line
     → HasMatchesOf (app_of made) words m
-    → excludes (first_value (found_of m)) || misses (first_value (found_of m)) ≡ is_excluded words
+    → excludes (first_value (found_of m)) || misbounds (first_value (found_of m)) ≡ is_excluded words
 excluded_is made words m is has =
     λ i. excludes (λ name. name_is made words m name is has i)
-    || misses (λ name. name_is made words m name is has i)
+    || misbounds (λ name. name_is made words m name is has i)
 
 -- whether a file is written over another that is named
 overwritten_is : (made : Command) (words : List Text) (m : ArgMatches)
@@ -342,7 +342,7 @@ pub returns-clause-at_given : goal.returns-clause-at_given
 returns-clause-at_given c = λ some.
     let given = first_value (found_of c.in_ok-matches.matches) in
     let none : c.misused.result ≡ None = search rules in
-    let free : excludes given || misses given ≡ false = sym c.misused.ensures ∙ ap is_some none in
+    let free : excludes given || misbounds given ≡ false = sym c.misused.ensures ∙ ap is_some none in
     let replayed : is_some (given (codes "replay")) ≡ true =
     has_schedule (given (codes "at")) (given (codes "replay")) (tells_whole given)
     c.in-Ok-sizes_of.sizes.at (last_false _ _ (first_false _ _ free)) c.in-Ok-sizes_of.ensures.at some in

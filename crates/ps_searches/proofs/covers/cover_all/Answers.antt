@@ -8,6 +8,7 @@ loop-place-init g c =
     let none : length c.args.cover.now.endings.entries ≡ 0 = ap length c.requires.endings in
     record {
       within = omega arith;
+      fewer = omega (arith, none);
       kept = c.keep.ensures.kept;
       each = λ k d within. absurd (omega (arith, within, none));
       most = refl;
@@ -29,6 +30,7 @@ loop-place-preserved g c =
     let more : length old ≤ length new = longer old new c.in_ok-follow.ensures.grows in
     record {
       within = omega (arith, inside, more);
+      fewer = omega (arith, c.follow.ensures.fewer, c.loop-place.invariant.fewer);
       kept = c.in_ok-follow.ensures.kept;
       each = c.in_ok-follow.ensures.each;
       most = c.in_ok-follow.ensures.most ∙ c.loop-place.invariant.most;

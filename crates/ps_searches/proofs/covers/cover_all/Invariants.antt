@@ -13,6 +13,7 @@ invariant-loop-place g l =
     let count = g.G.RunGraph.steps in
     record {
       within : l.place ≤ length l.cover.kept.entries;
+      fewer : length l.cover.endings.entries ≤ l.place;
       kept : AreKept price IsImage Makes count l.cover.most l.cover.kept.entries;
       each : All (IsEndOf price Ends Makes) l.cover.endings.entries;
       most : l.cover.most ≡ l.fn.cover.most;

@@ -1,0 +1,5 @@
+pub mod Bounding
+mod CommandExamples
+pub mod Obeying
+mod SessionExamples
+mod SoughtExamples

@@ -1,0 +1,5 @@
+mod Examples
+pub mod Following
+pub mod Listing
+pub mod Naming
+pub mod Ways

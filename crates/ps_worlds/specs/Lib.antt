@@ -1,0 +1,5 @@
+pub mod Equal
+pub mod Images
+pub mod Laws
+pub mod Runs
+pub mod Worlds
